@@ -1,0 +1,15 @@
+//! The words that the machine computes with, names, and the classes of throwables.
+//!
+//! A word is an int of the Java virtual machine: a whole number from -2,147,483,648 to
+//! 2,147,483,647 (JVMS SE 8, section 2.3). An operator computes with whole numbers and reduces the
+//! result to a word. A name is a list of bytes.
+#![tactic(auto)]
+
+mod name;
+mod operator;
+mod thrown;
+
+pub use name::Name;
+pub use operator::{Bin, apply2};
+pub use std::alloc::AllocError as NoMemory;
+pub use thrown::{Thrown, thrown_named};
