@@ -1,0 +1,200 @@
+-- How a thin file is read, part by part, from left to right. That what is read is what `ThinFile`
+-- says is a law, `thin_files_are_read`.
+use Rattle.std.specs.Prelude.{◌≡◌, ℕ, zero, suc, ◌+◌, ◌-◌, ◌≤◌, List, [], ◌∷◌, ◌++◌, length, Bool, true, false, not, ◌&&◌, ◌==◌, nat_lt, nat_le, if◌then◌else◌, Option, Some, None, is_some, is_none, map, filter, find, codes, pos, ◌-ℤ◌}
+use Rattle.std.specs.Option.{option_and_then, option_map}
+use Rattle.std.specs.Result.{result_ok}
+use Rattle.std.specs.List.{list_all}
+use Rattle.std.specs.Str.{bytes_eq}
+use Rattle.std.specs.Int.{w8, cast_signed}
+use Rattle.ms_words.specs.Throwables.{thrown_named}
+use Rattle.ms_pool.specs.Places.{Place, beginning, number_at, run_at}
+use Rattle.ms_classfile.specs.declared.instruction.Instruction.{Instruction}
+use Rattle.ms_classfile.specs.declared.instruction.Instruction.TheVariants.{Iload, Iconst, Bipush, Iadd, Isub, Ireturn}
+use Rattle.ms_classfile.specs.Instructions.{is_walked}
+use Rattle.ms_classfile.specs.ThinFile.{Entry, Utf8, Class, Attribute, Method, utf8, class_name, is_linked, has_name, is_named, int_descriptor, is_plain_static, magic}
+
+infixl 10 ◌>>=◌
+-- a read, and what is read after it
+abbrev pub ◌>>=◌ : {A B : Type 0} → Option A → (A → Option B) → Option B
+None >>= next = None
+(Some x) >>= next = next x
+
+-- what is read, if the test holds
+abbrev pub provided : {A : Type 0} → Bool → Option A → Option A
+provided true read = read
+provided false read = None
+
+abbrev pub u1_at : Place → Option (ℕ × Place)
+u1_at place = result_ok (number_at 1 place)
+
+abbrev pub u2_at : Place → Option (ℕ × Place)
+u2_at place = result_ok (number_at 2 place)
+
+abbrev pub u4_at : Place → Option (ℕ × Place)
+u4_at place = result_ok (number_at 4 place)
+
+abbrev pub bytes_at : ℕ → Place → Option (List ℕ × Place)
+bytes_at n place = result_ok (run_at n place)
+
+-- so many of the same kind, one after another
+unfoldable pub repeated : {X : Type 0} → (Place → Option (X × Place)) → ℕ → Place → Option (List X × Place)
+repeated read zero place = Some ([], place)
+repeated read (suc n) place = do
+  first ← read place
+  rest ← repeated read n first.1
+  Some (first.0 ∷ rest.0, rest.1)
+
+-- THE CONSTANT POOL
+
+unfoldable pub text_at : Place → Option (Entry × Place)
+text_at place = do
+  size ← u2_at place
+  text ← bytes_at size.0 size.1
+  Some (Utf8 text.0, text.1)
+
+unfoldable pub class_at : Place → Option (Entry × Place)
+class_at place = do
+  name ← u2_at place
+  Some (Class name.0, name.1)
+
+unfoldable pub entry_at : Place → Option (Entry × Place)
+entry_at place = do
+  tag ← u1_at place
+  if tag.0 == 1 then text_at tag.1 else provided (tag.0 == 7) (class_at tag.1)
+
+unfoldable pub pool_at : Place → Option (List Entry × Place)
+pool_at place = do
+  count ← u2_at place
+  pool ← provided (nat_lt 0 count.0) (repeated entry_at (count.0 - 1) count.1)
+  provided (list_all (is_linked pool.0) pool.0) (Some pool)
+
+-- ATTRIBUTES
+
+-- an attribute, whose name is a text
+unfoldable pub attribute_at : List Entry → Place → Option (Attribute × Place)
+attribute_at pool place = do
+  name ← u2_at place
+  size ← u4_at name.1
+  content ← bytes_at size.0 size.1
+  provided (is_some (utf8 pool name.0)) (Some (record { name = name.0; content = content.0 }, content.1))
+
+unfoldable pub attributes_at : List Entry → Place → Option (List Attribute × Place)
+attributes_at pool place = do
+  count ← u2_at place
+  repeated (attribute_at pool) count.0 count.1
+
+-- CODE
+
+-- the instruction that a byte is alone
+abbrev pub short_instruction : ℕ → Option Instruction
+short_instruction byte =
+    if nat_le 26 byte && nat_le byte 29 then Some (Iload (byte - 26))
+    else (if nat_le 2 byte && nat_le byte 8 then Some (Iconst (pos byte -ℤ pos 3))
+    else (if byte == 96 then Some Iadd
+    else (if byte == 100 then Some Isub
+    else (if byte == 172 then Some Ireturn
+    else None))))
+
+-- the instructions that these bytes are, one after another
+unfoldable pub instructions_of : List ℕ → Option (List Instruction)
+instructions_of [] = Some []
+instructions_of (byte ∷ []) = option_map (λ instruction. instruction ∷ []) (short_instruction byte)
+instructions_of (byte ∷ next ∷ bytes) =
+    if byte == 16
+    then option_map (λ code. Bipush (cast_signed w8 next) ∷ code) (instructions_of bytes)
+    else (short_instruction byte >>= λ instruction. option_map (λ code. instruction ∷ code) (instructions_of (next ∷ bytes)))
+
+-- the limits of a method's code
+pub record Limits : Type 0 where
+  pub max_stack : ℕ
+  pub max_locals : ℕ
+
+unfoldable pub limits_at : Place → Option (Limits × Place)
+limits_at place = do
+  max_stack ← u2_at place
+  max_locals ← u2_at max_stack.1
+  Some (record { max_stack = max_stack.0; max_locals = max_locals.0 }, max_locals.1)
+
+-- the rest of a Code attribute after its code: no exception table, attributes, and nothing more
+unfoldable pub rest_is_plain : List Entry → Place → Option Place
+rest_is_plain pool place = do
+  handlers ← u2_at place
+  attributes ← provided (handlers.0 == 0) (attributes_at pool handlers.1)
+  provided (length attributes.1.left == 0) (Some attributes.1)
+
+-- the instructions of a Code attribute that holds this, of a method with so many parameters
+unfoldable pub code_of : List Entry → ℕ → List ℕ → Option (List Instruction)
+code_of pool parameters content = do
+  limits ← limits_at (beginning content)
+  size ← u4_at limits.1
+  bytes ← provided (nat_le size.0 19999) (bytes_at size.0 size.1)
+  rest ← rest_is_plain pool bytes.1
+  code ← instructions_of bytes.0
+  let fits = nat_le limits.0.max_stack 256 && nat_le limits.0.max_locals 256 && nat_le parameters limits.0.max_locals in
+      provided (fits && is_walked parameters limits.0.max_stack 0 code) (Some code)
+
+-- THE METHOD AND THE FILE
+
+-- the one element of a list
+abbrev pub only : {X : Type 0} → List X → Option X
+only [] = None
+only (x ∷ []) = Some x
+only (x ∷ y ∷ more) = None
+
+-- the number of ints that a descriptor takes, at most four, where it gives an int
+abbrev pub parameters_of : List ℕ → Option ℕ
+parameters_of text = find (λ n. bytes_eq (int_descriptor n) text) (0 ∷ 1 ∷ 2 ∷ 3 ∷ 4 ∷ [])
+
+unfoldable pub method_at : List Entry → Place → Option (Method × Place)
+method_at pool place = do
+  access ← u2_at place
+  name_number ← u2_at access.1
+  descriptor_number ← u2_at name_number.1
+  attributes ← provided (is_plain_static access.0) (attributes_at pool descriptor_number.1)
+  name ← utf8 pool name_number.0
+  text ← utf8 pool descriptor_number.0
+  parameters ← parameters_of text
+  attribute ← only (filter (is_named pool (codes "Code")) attributes.0)
+  code ← code_of pool parameters attribute.content
+  Some (record { name = name; descriptor = text; parameters = parameters; instructions = code }, attributes.1)
+
+-- magic and version
+unfoldable pub header_at : Place → Option Place
+header_at place = do
+  first ← u4_at place
+  minor ← provided (first.0 == magic) (u2_at first.1)
+  major ← u2_at minor.1
+  provided (nat_le 45 major.0 && nat_le major.0 52) (Some major.1)
+
+-- a name that no throwable has
+abbrev pub is_ordinary : List ℕ → Bool
+is_ordinary name = is_none (thrown_named name)
+
+-- the class's flags, its name and its parent
+unfoldable pub class_part_at : List Entry → Place → Option Place
+class_part_at pool place = do
+  access ← u2_at place
+  this_class ← u2_at access.1
+  super_class ← u2_at this_class.1
+  name ← class_name pool this_class.0
+  parent ← class_name pool super_class.0
+  provided (is_ordinary name && bytes_eq parent (codes "java/lang/Object")) (Some super_class.1)
+
+-- no interfaces, no fields, one method
+unfoldable pub counts_at : Place → Option Place
+counts_at place = do
+  interfaces ← u2_at place
+  fields ← u2_at interfaces.1
+  methods ← u2_at fields.1
+  provided (interfaces.0 == 0 && (fields.0 == 0) && (methods.0 == 1)) (Some methods.1)
+
+-- the method of the thin file that these bytes are, if they are one
+unfoldable pub thin_method : List ℕ → Option Method
+thin_method bytes = do
+  start ← header_at (beginning bytes)
+  pool ← pool_at start
+  class ← class_part_at pool.0 pool.1
+  counts ← counts_at class
+  method ← method_at pool.0 counts
+  attributes ← attributes_at pool.0 method.1
+  provided (length attributes.1.left == 0) (Some method.0)

@@ -1,0 +1,7 @@
+//! Class files. Today only the small ones are read that the machine can run so far: thin files, of
+//! one class with one static method over ints, whose code has no branch.
+#![tactic(auto)]
+
+mod instruction;
+
+pub use instruction::Instruction;
