@@ -1,0 +1,7 @@
+use Rattle.std.proofs.Common.{◌≡◌, take}
+use Rattle.ms_command.specs.Texts.{printed_name}
+use Rattle.ms_command.proofs.reply.printed.Given as goal
+
+-- what was printed so far
+abbrev pub invariant-loop-byte : goal.invariant-loop-byte
+invariant-loop-byte l = l.text.items ≡ printed_name (take l.byte-index l.name)

@@ -1,0 +1,36 @@
+-- The text of replies.
+use Rattle.std.specs.Prelude.{ℕ, ◌+◌, ◌/◌, ◌%◌, List, [], ◌∷◌, ◌++◌, ℤ, Bool, not, ◌&&◌, ◌==◌, nat_le, nat_lt, if◌then◌else◌, codes}
+use Rattle.std.specs.List.{flat_map}
+use Rattle.std.specs.Fmt.{signed_decimal}
+use Rattle.ms_command.specs.declared.reply.Reply.{Reply}
+use Rattle.ms_command.specs.declared.reply.Reply.TheVariants.{Ran, NoCommand, Absent, NotBuilt}
+
+-- a hexadecimal digit, the letters small
+abbrev pub hex_digit : ℕ → ℕ
+hex_digit digit = if nat_lt digit 10 then 48 + digit else 87 + digit
+
+-- whether a byte of a name is printed as it is: it is from 0x21 to 0x7E and no backslash
+abbrev pub is_printed : ℕ → Bool
+is_printed byte = nat_le 0x21 byte && nat_le byte 0x7E && not (byte == 92)
+
+-- a byte of a printed name: as it is, or as \x and two hexadecimal digits
+abbrev pub printed_byte : ℕ → List ℕ
+printed_byte byte = if is_printed byte then byte ∷ [] else 92 ∷ 120 ∷ hex_digit (byte / 16) ∷ hex_digit (byte % 16) ∷ []
+
+abbrev pub printed_name : List ℕ → List ℕ
+printed_name name = flat_map printed_byte name
+
+-- how the end of a run that returned a word is printed
+abbrev pub returned_text : ℤ → List ℕ
+returned_text word = codes "returns " ++ signed_decimal word
+
+-- a line feed
+abbrev pub line_end : List ℕ
+line_end = 10 ∷ []
+
+-- the text of a reply, which is one line
+abbrev pub reply_text : Reply → List ℕ
+reply_text (Ran end) = codes "ok " ++ end ++ line_end
+reply_text NoCommand = codes "refused 2 Command" ++ line_end
+reply_text (Absent file) = codes "refused 3 Absent " ++ printed_name file ++ line_end
+reply_text NotBuilt = codes "refused 90 NotBuilt" ++ line_end

@@ -1,0 +1,15 @@
+//! Command lines, and the text of replies.
+//!
+//! A line is cut into tokens at its spaces, and the tokens are a command where they have the form of
+//! one. Each reply is one line of text, ended by a line feed.
+#![tactic(auto)]
+
+mod command;
+mod number;
+mod numbers;
+mod reply;
+mod tokens;
+
+pub use command::{Command, CommandRefusal, read_command};
+pub use numbers::Numbers;
+pub use reply::{Reply, returned, write_reply};
