@@ -1,0 +1,66 @@
+ghost use Rattle.std.specs.Prelude.{◌≡◌, ◌<◌, ◌↔◌, [], length, IsTrue, IfOk, OnOk, Some};
+ghost use Rattle.ms_words.specs.Words.{applied2};
+ghost use Rattle.ms_classfile.specs.Instructions.{is_walked};
+ghost use Rattle.ms_jvm.specs.Runs.{IsReady, combined, left_by, returned};
+
+use crate::stack::OperandStack;
+use ms_classfile::Instruction;
+use ms_words::{Bin, NoMemory, apply2};
+use std::alloc::{AllocError, Global};
+
+/// The word that straight-line code returns, run on these words as its parameters. The code is walked
+/// with as many parameters, from an empty stack of at most `max_stack` words. It fails for want of
+/// memory alone.
+pub fn run(
+    alloc: Global,
+    max_stack: u16,
+    code: &[Instruction],
+    words: &[i32],
+) -> Result<i32, NoMemory>
+    requires { IsTrue (is_walked (length words.now) max_stack 0 code.now) }
+    ensures { IfOk result (λ word. returned words.now [] code.now ≡ Some word) }
+{
+    let mut stack = OperandStack::new(alloc);
+    for instruction in code {
+        if is_return(*instruction) {
+            return Ok(stack.pop());
+        }
+        execute(*instruction, words, &mut stack)?;
+    }
+    unreachable!()
+}
+
+fn is_return(instruction: Instruction) -> bool
+    ensures { IsTrue result ↔ (instruction ≡ Instruction.Ireturn) }
+{
+    matches!(instruction, Instruction::Ireturn)
+}
+
+/// Executes an instruction that doesn't return.
+fn execute(
+    instruction: Instruction,
+    words: &[i32],
+    stack: &mut OperandStack,
+) -> Result<(), AllocError>
+    requires { IsReady (length words.now) (length stack.old) instruction }
+    ensures { OnOk result (left_by words.now instruction stack.old ≡ Some stack.new) }
+{
+    match instruction {
+        Instruction::Iload(local) => stack.push(words[local as usize]),
+        Instruction::Iconst(word) => stack.push(word),
+        Instruction::Bipush(word) => stack.push(word),
+        Instruction::Iadd => combine(Bin::Add, stack),
+        Instruction::Isub => combine(Bin::Sub, stack),
+        Instruction::Ireturn => unreachable!(),
+    }
+}
+
+/// Replaces the two top words by what the operator gives; the upper one is the right operand.
+fn combine(op: Bin, stack: &mut OperandStack) -> Result<(), AllocError>
+    requires { 1 < length stack.old }
+    ensures { OnOk result (combined (applied2 op) stack.old ≡ Some stack.new) }
+{
+    let right = stack.pop();
+    let left = stack.pop();
+    stack.push(apply2(op, left, right))
+}
