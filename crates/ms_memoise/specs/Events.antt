@@ -1,0 +1,81 @@
+-- Events: lines with the shelf's answers to the file names in them, and what is written for one.
+use Rattle.std.specs.Prelude.{◌≡◌, ℕ, List, [], ◌∷◌, length, map, Option, Some, None, IfSome}
+use Rattle.std.specs.List.{flat_map, AllByRecursion}
+use Rattle.std.specs.Str.Lines.{lines}
+use Rattle.ms_outside.specs.Counts.{ShelfCounts, Rose}
+use Rattle.ms_outside.specs.Shelves as shelves
+use Rattle.ms_outside.specs.Shelves.{Answer, File, IsWithinLimit, answer_of}
+use Rattle.ms_command.specs.declared.command.Command.{Command}
+use Rattle.ms_command.specs.declared.command.Command.TheVariants.{Nothing, Once}
+use Rattle.ms_command.specs.declared.reply.Reply.TheVariants.{NoCommand}
+use Rattle.ms_command.specs.Commands.{command_of}
+use Rattle.ms_command.specs.Texts.{reply_text}
+use Rattle.ms_memoise.specs.Replies.{once_reply}
+
+-- a line, and the shelf's answers to the names of files in it, in their order
+pub record Event : Type 0 where
+  pub line : List ℕ
+  pub answers : List Answer
+
+-- the names of files that a command asks for, in order
+abbrev pub names_in : Option Command → List (List ℕ)
+names_in None = []
+names_in (Some Nothing) = []
+names_in (Some (Once file name desc numbers)) = file ∷ []
+
+-- the names of files that a line asks for
+abbrev pub asked : List ℕ → List (List ℕ)
+asked line = names_in (command_of line)
+
+-- what is written for a command, by the answers: the text of its reply, or nothing for a line without a token
+abbrev pub text_for : Option Command → List Answer → List ℕ
+text_for None answers = reply_text NoCommand
+text_for (Some Nothing) answers = []
+text_for (Some (Once file name desc numbers)) [] = []
+text_for (Some (Once file name desc numbers)) (answer ∷ answers) = reply_text (once_reply file name desc numbers answer)
+
+-- what is written for an event
+abbrev pub text_of : Event → List ℕ
+text_of event = text_for (command_of event.line) event.answers
+
+-- what is written for events, one after another
+abbrev pub texts_of : List Event → List ℕ
+texts_of events = flat_map text_of events
+
+abbrev pub lines_of : List Event → List (List ℕ)
+lines_of events = map (λ event. event.line) events
+
+-- the event of a line, where the shelf has these files
+abbrev pub event_of : List File → List ℕ → Event
+event_of files line = record { line = line; answers = map (answer_of files) (asked line) }
+
+-- the replies to the lines of an input, where the shelf has these files
+abbrev pub replies : List File → List ℕ → List ℕ
+replies files input = texts_of (map (event_of files) (lines input))
+
+-- a shelf at a moment: its files, where it tells them, and its counts
+pub record ShelfSide : Type 0 where
+  pub files : Option (List File)
+  pub counts : ShelfCounts
+
+abbrev pub shelf_side : Option (List File) → ShelfCounts → ShelfSide
+shelf_side files counts = record { files = files; counts = counts }
+
+-- the answer has its cause: a miss, or a file that is too long, was counted
+abbrev pub HasCauseFor : ShelfSide → ShelfSide → Answer → Type 0
+HasCauseFor before now shelves.Absent = Rose before.counts.misses now.counts.misses
+HasCauseFor before now shelves.TooLong = Rose before.counts.overlong now.counts.overlong
+HasCauseFor before now (shelves.Found bytes) = Unit {0}
+
+-- the shelf gave these answers to these names between the two moments
+pub record AreAnswers (before now : ShelfSide) (names : List (List ℕ)) (answers : List Answer) : Type 0 where
+  -- there is one answer to each name
+  pub each : length answers ≡ length names
+  pub size : AllByRecursion IsWithinLimit answers
+  pub causes : AllByRecursion (HasCauseFor before now) answers
+  -- where the shelf tells its files, the answers are theirs
+  pub told : IfSome before.files (λ files. answers ≡ map (answer_of files) names)
+
+-- the answers of an event came from the shelf between the two moments
+abbrev pub IsAnswered : ShelfSide → ShelfSide → Event → Type 0
+IsAnswered before now event = AreAnswers before now (asked event.line) event.answers

@@ -1,0 +1,6 @@
+pub mod Lines
+pub mod Replies
+pub mod Events
+pub mod Statuses
+pub mod Conversations
+pub mod Feeding

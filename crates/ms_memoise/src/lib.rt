@@ -1,0 +1,7 @@
+//! The whole program over an outside that is handed in: it reads command lines from a source, asks a
+//! shelf for class files, and writes each reply to a sink.
+#![tactic(auto)]
+
+mod status;
+
+pub use status::Status;
