@@ -7,11 +7,11 @@ use Rattle.ms_outside.specs.Sinks.{TakesPart}
 
 -- known bytes that grew by some first bytes of a piece, and then stayed as they were
 pub taken_part : (a b c : Option (List ℕ)) (n : ℕ) (piece : List ℕ) → Appends a b (take n piece) → Keeps b c → TakesPart a c piece
-taken_part a b c n piece grown kept = (n , Appends-kept a b c (take n piece) grown kept)
+taken_part a b c n piece grown kept = (n, Appends-kept a b c (take n piece) grown kept)
 
 -- known bytes that stayed as they were
 pub taken_none : (a b : Option (List ℕ)) (piece : List ℕ) → Keeps a b → TakesPart a b piece
-taken_none a b piece kept = (0 , Appends-kept a a b [] (Appends-nil a) kept)
+taken_none a b piece kept = (0, Appends-kept a a b [] (Appends-nil a) kept)
 
 -- bytes that grew by the first bytes of a text, and then by some first bytes of the rest, grew by first bytes of the text
 pub written_more : (a b c : Option (List ℕ)) (at n : ℕ) (bytes : List ℕ) → Appends a b (take at bytes) → Appends b c (take n (drop at bytes)) → Appends a c (take (at + n) bytes)
@@ -19,4 +19,4 @@ written_more a b c at n bytes first more = rw take-add (Appends-trans a b c (tak
 
 -- the same where it isn't said how many came last
 pub part_more : (a b c : Option (List ℕ)) (at : ℕ) (bytes : List ℕ) → Appends a b (take at bytes) → TakesPart b c (drop at bytes) → TakesPart a c bytes
-part_more a b c at bytes first more = (at + more.0 , written_more a b c at more.0 bytes first more.1)
+part_more a b c at bytes first more = (at + more.0, written_more a b c at more.0 bytes first more.1)

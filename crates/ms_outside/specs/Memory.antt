@@ -1,5 +1,5 @@
 -- Sources, sinks and shelves in memory: what they hold, and how a call changes it.
-use Rattle.std.specs.Prelude.{ℕ, ◌+◌, ◌-◌, ◌^◌, ◌==◌, List, ◌++◌, Bool, not, ◌&&◌, if◌then◌else◌, min, length, drop}
+use Rattle.std.specs.Prelude.{ℕ, ◌+◌, ◌-◌, ◌^◌, ◌==◌, List, ◌++◌, Bool, if◌then◌else◌, min, length, drop}
 use Rattle.std.specs.List.{list_any}
 use Rattle.ms_outside.specs.Counts.{ShelfCounts}
 use Rattle.ms_outside.specs.Shelves.{File, Answer, Absent, TooLong, Found}

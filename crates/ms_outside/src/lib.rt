@@ -20,6 +20,7 @@ pub mod source;
 pub mod std_sink;
 pub mod std_source;
 pub mod sure_shelf;
+pub mod sure_sink;
 pub mod sure_source;
 mod tally;
 pub mod writing;
@@ -35,6 +36,7 @@ pub use source::Source;
 pub use std_sink::StdSink;
 pub use std_source::StdSource;
 pub use sure_shelf::SureShelf;
+pub use sure_sink::SureSink;
 pub use sure_source::SureSource;
 pub use writing::write_all;
 

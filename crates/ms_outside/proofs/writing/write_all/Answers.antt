@@ -1,4 +1,4 @@
-use Rattle.std.proofs.Common.{arith, MatchResult}
+use Rattle.std.proofs.Common.{arith}
 use Rattle.std.proofs.lemmas.List.{take_rest}
 use Rattle.ms_outside.proofs.Parts.{written_more, part_more}
 use Rattle.ms_outside.proofs.writing.write_all.Goals as goal
@@ -14,5 +14,5 @@ loop-at-preserved g c =
     record {
       in_range = grind (arith, c.in_ok-at.ensures.within);
       written = written_more _ _ _ _ _ _ c.loop-at.invariant.written more;
-      grows = grind (arith, c.in_ok-at.ensures.cause.grows)
+      grows = grind (arith, c.in_ok-at.ensures.cause.grows);
     }
