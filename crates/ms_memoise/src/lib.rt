@@ -2,6 +2,9 @@
 //! shelf for class files, and writes each reply to a sink.
 #![tactic(auto)]
 
+mod answer;
+mod call;
+mod feed;
 mod status;
 
 pub use status::Status;

@@ -1,3 +1,6 @@
 pub mod Counts
 pub mod Sinks
 pub mod Shelves
+pub mod Memory
+pub mod Telling
+pub mod Folders

@@ -1,5 +1,5 @@
 -- Files by name, and what a shelf answers.
-use Rattle.std.specs.Prelude.{◌≡◌, ℕ, ◌≤◌, List, Option, Some, None, nat_lt, if◌then◌else◌, length, find}
+use Rattle.std.specs.Prelude.{ℕ, ◌≤◌, List, Option, Some, None, nat_lt, if◌then◌else◌, length, find}
 use Rattle.std.specs.Str.{bytes_eq}
 use Rattle.std.specs.Option.{option_map}
 use Rattle.ms_outside.specs.Counts.{ShelfCounts, CountsGrow, Rose}

@@ -1,0 +1,122 @@
+ghost use Rattle.std.specs.Prelude.{◌≡◌, ◌≢◌, IfSome, Option, List, None, Some};
+ghost use Rattle.ms_outside.specs.Counts.{ShelfCounts};
+ghost use Rattle.ms_outside.specs.Shelves.{File, FetchHasCauses, IsWithinLimit, answer_of_contents, answered};
+ghost use Rattle.ms_outside.specs.Memory.{counts_after};
+ghost use Rattle.ms_outside.specs.Folders.{open_answer, read_answer};
+
+use crate::shelf::MOST_BYTES;
+use crate::tally::Tally;
+use crate::{Fetch, Shelf};
+use std::alloc::Global;
+use std::fs;
+use std::io::{ErrorKind, Read};
+use std::marker::Model;
+use std::rt::Files;
+
+/// How many bytes one read of a file asks for.
+const CHUNK_BYTES: usize = 4096;
+
+/// The files of the folder that the program runs in, and of other folders by their paths. It tells
+/// no files. A clause sees it as its counts.
+#[derive(Debug, Drop)]
+pub struct FolderShelf<R: Files + Drop> {
+    files: R,
+    tally: Tally,
+}
+
+impl<R: Files + Drop> Model for FolderShelf<R> {
+    ghost Value = { ShelfCounts };
+
+    ghost view = { λ shelf. shelf.tally };
+}
+
+impl<R: Files + Drop> FolderShelf<R> {
+    /// A shelf over this runtime's files. No fetch has come yet.
+    pub fn new(files: R) -> FolderShelf<R>
+        ensures { result ≡ record { faults = 0; misses = 0; overlong = 0 } }
+    {
+        FolderShelf {
+            files,
+            tally: Tally::new(),
+        }
+    }
+}
+
+impl<R: Files + Drop> Shelf for FolderShelf<R> {
+    ghost files = { λ _. None };
+
+    ghost counts = { λ shelf. shelf };
+
+    /// Opens the file and reads it to its end, or until it is too long. `Absent`: the open said that
+    /// there is no such file, or no file can have this name. `NoMemory`: it said that memory ran
+    /// out, or there is none for the bytes. `Failed`: any other error of the open or of a read.
+    fn fetch(&mut self, alloc: Global, name: &[u8]) -> Fetch
+        ensures size { IfSome (answered result) IsWithinLimit }
+        ensures causes { FetchHasCauses self.old self.new result }
+        ensures after { self.new ≡ counts_after self.old result }
+    {
+        let fetched = fetch_file(alloc, &self.files, name);
+        self.tally.count(&fetched);
+        fetched
+    }
+}
+
+/// What the file of this name answers. A name that is no UTF-8 text is no file's.
+fn fetch_file<R: Files>(alloc: Global, files: &R, name: &[u8]) -> Fetch
+    ensures { IfSome (answered result) IsWithinLimit }
+{
+    let Ok(path) = str::from_utf8(name) else {
+        return Fetch::Absent;
+    };
+    match fs::open(files, path) {
+        Ok(mut file) => read_whole(alloc, &mut file),
+        Err(error) => refused_open(error.kind()),
+    }
+}
+
+/// What an open that failed answers. `InvalidInput` and `InvalidFilename` are names that no file can
+/// have, as one with a zero byte or one that is too long.
+fn refused_open(kind: ErrorKind) -> Fetch
+    ensures { result ≡ open_answer kind }
+{
+    match kind {
+        ErrorKind::NotFound
+        | ErrorKind::NotADirectory
+        | ErrorKind::InvalidFilename
+        | ErrorKind::InvalidInput => Fetch::Absent,
+        ErrorKind::OutOfMemory => Fetch::NoMemory,
+        _ => Fetch::Failed,
+    }
+}
+
+/// What a read that failed answers.
+fn refused_read(kind: ErrorKind) -> Fetch
+    ensures { result ≡ read_answer kind }
+{
+    match kind {
+        ErrorKind::OutOfMemory => Fetch::NoMemory,
+        _ => Fetch::Failed,
+    }
+}
+
+/// Reads to the end, or past the most bytes that a shelf hands out.
+fn read_whole<F: Read>(alloc: Global, reader: &mut F) -> Fetch
+    ensures answer { IfSome (F.remaining reader.old) (λ bytes. IfSome (answered result) (λ answer. answer ≡ answer_of_contents (Some bytes))) }
+    ensures size { IfSome (answered result) IsWithinLimit }
+    ensures present { result ≢ Fetch.Absent }
+{
+    let mut chunk = [0u8; CHUNK_BYTES];
+    let mut bytes = Vec::new(alloc);
+    while bytes.len() <= MOST_BYTES {
+        match reader.read(&mut chunk) {
+            Ok(0) => return Fetch::Bytes(bytes),
+            Ok(count) => {
+                if bytes.extend_from_slice(&chunk[..count]).is_err() {
+                    return Fetch::NoMemory;
+                }
+            }
+            Err(error) => return refused_read(error.kind()),
+        }
+    }
+    Fetch::TooLong
+}
