@@ -1,1 +1,4 @@
 mod Example
+pub mod Repeated
+pub mod Only
+pub mod Decoding

@@ -1,3 +1,4 @@
 pub mod Instructions
 pub mod ThinFile
 pub mod Reading
+pub mod Found

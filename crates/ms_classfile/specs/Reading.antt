@@ -10,6 +10,7 @@ use Rattle.ms_words.specs.Throwables.{thrown_named}
 use Rattle.ms_pool.specs.Places.{Place, beginning, number_at, run_at}
 use Rattle.ms_classfile.specs.declared.instruction.Instruction.{Instruction}
 use Rattle.ms_classfile.specs.declared.instruction.Instruction.TheVariants.{Iload, Iconst, Bipush, Iadd, Isub, Ireturn}
+use Rattle.ms_classfile.specs.declared.thin.parts.Limits.{Limits}
 use Rattle.ms_classfile.specs.Instructions.{is_walked}
 use Rattle.ms_classfile.specs.ThinFile.{Entry, Utf8, Class, Attribute, Method, utf8, class_name, is_linked, has_name, is_named, int_descriptor, is_plain_static, magic}
 
@@ -105,10 +106,6 @@ instructions_of (byte ∷ next ∷ bytes) =
     else (short_instruction byte >>= λ instruction. option_map (λ code. instruction ∷ code) (instructions_of (next ∷ bytes)))
 
 -- the limits of a method's code
-pub record Limits : Type 0 where
-  pub max_stack : ℕ
-  pub max_locals : ℕ
-
 unfoldable pub limits_at : Place → Option (Limits × Place)
 limits_at place = do
   max_stack ← u2_at place
@@ -122,8 +119,9 @@ rest_is_plain pool place = do
   attributes ← provided (handlers.0 == 0) (attributes_at pool handlers.1)
   provided (length attributes.1.left == 0) (Some attributes.1)
 
--- the instructions of a Code attribute that holds this, of a method with so many parameters
-unfoldable pub code_of : List Entry → ℕ → List ℕ → Option (List Instruction)
+-- the most words on the stack and the instructions of a Code attribute that holds this, of a method
+-- with so many parameters
+unfoldable pub code_of : List Entry → ℕ → List ℕ → Option (ℕ × List Instruction)
 code_of pool parameters content = do
   limits ← limits_at (beginning content)
   size ← u4_at limits.1
@@ -131,7 +129,7 @@ code_of pool parameters content = do
   rest ← rest_is_plain pool bytes.1
   code ← instructions_of bytes.0
   let fits = nat_le limits.0.max_stack 256 && nat_le limits.0.max_locals 256 && nat_le parameters limits.0.max_locals in
-      provided (fits && is_walked parameters limits.0.max_stack 0 code) (Some code)
+      provided (fits && is_walked parameters limits.0.max_stack 0 code) (Some (limits.0.max_stack, code))
 
 -- THE METHOD AND THE FILE
 
@@ -156,7 +154,7 @@ method_at pool place = do
   parameters ← parameters_of text
   attribute ← only (filter (is_named pool (codes "Code")) attributes.0)
   code ← code_of pool parameters attribute.content
-  Some (record { name = name; descriptor = text; parameters = parameters; instructions = code }, attributes.1)
+  Some (record { name = name; descriptor = text; parameters = parameters; max_stack = code.0; instructions = code.1 }, attributes.1)
 
 -- magic and version
 unfoldable pub header_at : Place → Option Place

@@ -150,11 +150,13 @@ abbrev pub EntryFits : Entry → Type 0
 EntryFits (Utf8 text) = length text < 2 ^ 16
 EntryFits (Class name) = name < 2 ^ 16
 
--- what is said of a thin method: its name, its descriptor, the number of its parameters, its instructions
+-- what is said of a thin method: its name, its descriptor, the number of its parameters, the most words
+-- that its stack has at any time, its instructions
 pub record Method : Type 0 where
   pub name : List ℕ
   pub descriptor : List ℕ
   pub parameters : ℕ
+  pub max_stack : ℕ
   pub instructions : List Instruction
 
 -- the code of a method with so many parameters
@@ -199,6 +201,7 @@ pub record HasThinMethod (file : ThinFile) (method : Method) : Type 0 where
   -- one attribute is named Code, and holds the code
   pub code : map (λ attribute. attribute.content) (filter (is_named file.pool (codes "Code")) file.method_attributes) ≡ spelled_code file.code ∷ []
   pub thin : IsThinCode file.pool method.parameters file.code
+  pub stack : file.code.max_stack ≡ method.max_stack
   pub instructions : file.code.instructions ≡ method.instructions
 
 -- the bytes are a thin file with this method

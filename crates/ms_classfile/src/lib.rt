@@ -3,5 +3,7 @@
 #![tactic(auto)]
 
 mod instruction;
+mod thin;
 
 pub use instruction::Instruction;
+pub use thin::{ThinMethod, read_thin};

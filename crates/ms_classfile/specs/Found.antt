@@ -1,0 +1,56 @@
+-- What the readers of a thin file return, seen as the parts of a file, and that it is what the
+-- definitions of `Reading` give.
+use Rattle.std.specs.Prelude.{◌≡◌, ℕ, List, [], ◌∷◌, map, ◌==◌, if◌then◌else◌, Option, Some, None, Result, Ok, Err}
+use Rattle.std.specs.Option.{option_map}
+use Rattle.std.specs.Int.{w8, cast_signed}
+use Rattle.ms_pool.specs.Places.{Place}
+use Rattle.ms_classfile.specs.declared.thin.failure.Failure.{Failure}
+use Rattle.ms_classfile.specs.declared.thin.failure.Failure.TheVariants as failures
+use Rattle.ms_classfile.specs.declared.thin.parts.PoolEntry.{PoolEntry}
+use Rattle.ms_classfile.specs.declared.thin.parts.PoolEntry.TheVariants as entries
+use Rattle.ms_classfile.specs.declared.thin.parts.RawAttribute.{RawAttribute}
+use Rattle.ms_classfile.specs.declared.thin.parts.ThinMethod.{ThinMethod}
+use Rattle.ms_classfile.specs.declared.instruction.Instruction.{Instruction}
+use Rattle.ms_classfile.specs.declared.instruction.Instruction.TheVariants.{Bipush}
+use Rattle.ms_classfile.specs.Reading.{short_instruction}
+use Rattle.ms_classfile.specs.ThinFile.{Entry, Utf8, Class, Attribute, Method}
+
+-- an entry, an attribute, a method, without where their bytes lie in memory
+abbrev pub entry_view : PoolEntry → Entry
+entry_view (entries.Utf8 text) = Utf8 text.now
+entry_view (entries.Class name) = Class name
+
+abbrev pub attribute_view : RawAttribute → Attribute
+attribute_view attribute = record { name = attribute.name; content = attribute.content.now }
+
+abbrev pub view : ThinMethod → Method
+view method = record { name = method.name.now; descriptor = method.descriptor.now; parameters = method.parameters; max_stack = method.max_stack; instructions = method.instructions.items }
+
+-- nothing is read, unless memory ran out
+abbrev pub Fails : {Y : Type 0} → Failure → Option Y → Type 0
+Fails failures.NotThin read = read ≡ None
+Fails failures.NoMemory read = Unit {0}
+
+-- What a function returned, seen by `seen`, is what is read, unless memory ran out.
+abbrev pub Gives : {X Y : Type 0} → (X → Y) → Result X Failure → Option Y → Type 0
+Gives seen (Ok x) read = read ≡ Some (seen x)
+Gives seen (Err failure) read = Fails failure read
+
+-- It is what is read, and the place is the one behind it, unless memory ran out.
+abbrev pub Leads : {X Y : Type 0} → (X → Y) → Result X Failure → Place → Option (Y × Place) → Type 0
+Leads seen (Ok x) place read = read ≡ Some (seen x, place)
+Leads seen (Err failure) place read = Fails failure read
+
+-- The place is the one behind what is read. Such a read takes no memory.
+abbrev pub Passes : Result Unit Failure → Place → Option Place → Type 0
+Passes (Ok x) place read = read ≡ Some place
+Passes (Err failure) place read = Fails failure read
+
+-- the first instruction of these bytes, and the bytes after it
+abbrev pub first_instruction : List ℕ → Option (Instruction × List ℕ)
+first_instruction [] = None
+first_instruction (byte ∷ []) = option_map (λ instruction. (instruction, [])) (short_instruction byte)
+first_instruction (byte ∷ next ∷ bytes) =
+    if byte == 16
+    then Some (Bipush (cast_signed w8 next), bytes)
+    else option_map (λ instruction. (instruction, next ∷ bytes)) (short_instruction byte)

@@ -1,0 +1,158 @@
+ghost use Rattle.std.specs.Prelude.{◌≡◌, ◌<◌, length, map, IfSome, nat_le, ◌&&◌};
+ghost use Rattle.std.specs.Option.{option_map};
+ghost use Rattle.ms_pool.specs.Places.{beginning};
+ghost use Rattle.ms_classfile.specs.Instructions as walking;
+ghost use Rattle.ms_classfile.specs.Reading.{instructions_of, limits_at, code_of};
+ghost use Rattle.ms_classfile.specs.Reading as reading;
+ghost use Rattle.ms_classfile.specs.Found.{Gives, Leads, Passes, entry_view};
+ghost use Rattle.ms_classfile.specs.Found as found;
+
+use super::attributes::attributes;
+use super::failure::Failure;
+use super::parts::{Limits, PoolEntry};
+use crate::Instruction;
+use ms_pool::Cursor;
+use std::alloc::Global;
+
+/// The most bytes that code has here.
+const LONGEST: u32 = 19_999;
+
+/// The most words on the stack, and the most locals, that code has here.
+const MOST: u16 = 256;
+
+fn short_instruction(byte: u8) -> Option<Instruction>
+    ensures { result ≡ reading.short_instruction byte }
+{
+    match byte {
+        26..=29 => Some(Instruction::Iload(byte - 26)),
+        2..=8 => Some(Instruction::Iconst(i32::from(byte) - 3)),
+        96 => Some(Instruction::Iadd),
+        100 => Some(Instruction::Isub),
+        172 => Some(Instruction::Ireturn),
+        _ => None,
+    }
+}
+
+fn first_instruction(code: &[u8]) -> Option<(Instruction, &[u8])>
+    ensures first { option_map (λ found. (found.0, found.1.now)) result ≡ found.first_instruction code.now }
+    ensures shorter { IfSome result (λ found. length found.1.now < length code.now) }
+{
+    match code {
+        [] => None,
+        [16, word, rest @ ..] => Some((Instruction::Bipush(i32::from(word.cast_signed())), rest)),
+        [byte, rest @ ..] => Some((short_instruction(*byte)?, rest)),
+    }
+}
+
+fn instructions(alloc: Global, code: &[u8]) -> Result<Vec<Instruction>, Failure>
+    ensures { Gives (λ found. found.items) result (instructions_of code.now) }
+{
+    let mut instructions = Vec::new(alloc);
+    let mut rest = code;
+    while !rest.is_empty() {
+        let Some((instruction, after)) = first_instruction(rest) else {
+            return Err(Failure::NotThin);
+        };
+        instructions.push(instruction)?;
+        rest = after;
+    }
+    Ok(instructions)
+}
+
+/// Whether the code is walked in order from an empty stack: each instruction finds its operands, the
+/// depth is at most `most`, each load names a parameter, and the return stands last, once, at depth 1.
+fn is_walked(parameters: usize, most: usize, code: &[Instruction]) -> bool
+    ensures { result ≡ walking.is_walked parameters most 0 code.now }
+{
+    let mut depth = 0usize;
+    for (at, instruction) in code.iter().enumerate() {
+        match *instruction {
+            Instruction::Iload(local) => {
+                if usize::from(local) >= parameters || depth >= most {
+                    return false;
+                }
+                depth += 1;
+            }
+            Instruction::Iconst(_) | Instruction::Bipush(_) => {
+                if depth >= most {
+                    return false;
+                }
+                depth += 1;
+            }
+            Instruction::Iadd | Instruction::Isub => {
+                if depth < 2 {
+                    return false;
+                }
+                depth -= 1;
+            }
+            Instruction::Ireturn => return depth == 1 && at + 1 == code.len(),
+        }
+    }
+    false
+}
+
+#[tactic(auto, unfolding(crate::specs::Reading::limits_at))]
+fn limits(cursor: &mut Cursor<'_>) -> Result<Limits, Failure>
+    ensures { Leads (λ limits. limits) result cursor.new (limits_at cursor.old) }
+{
+    let max_stack = cursor.u2()?;
+    let max_locals = cursor.u2()?;
+    Ok(Limits {
+        max_stack,
+        max_locals,
+    })
+}
+
+fn is_small(limits: Limits, parameters: usize) -> bool
+    ensures { result ≡ (nat_le limits.max_stack 256 && nat_le limits.max_locals 256 && nat_le parameters limits.max_locals) }
+{
+    limits.max_stack <= MOST
+        && limits.max_locals <= MOST
+        && parameters <= usize::from(limits.max_locals)
+}
+
+#[tactic(auto, unfolding(crate::specs::Reading::rest_is_plain))]
+fn rest_is_plain<'a>(
+    alloc: Global,
+    pool: &[PoolEntry<'a>],
+    cursor: &mut Cursor<'a>,
+) -> Result<(), Failure>
+    ensures { Passes result cursor.new (reading.rest_is_plain (map entry_view pool.now) cursor.old) }
+{
+    let handlers = cursor.u2()?;
+    if handlers != 0 {
+        return Err(Failure::NotThin);
+    }
+    let _attributes = attributes(alloc, pool, cursor)?;
+    if !cursor.is_at_end() {
+        return Err(Failure::NotThin);
+    }
+    Ok(())
+}
+
+/// The most words on the stack and the instructions that the content of a Code attribute states, for a
+/// method with so many parameters (JVMS SE 8, section 4.7.3).
+#[tactic(auto, unfolding(crate::specs::Reading::code_of))]
+pub fn code<'a>(
+    alloc: Global,
+    pool: &[PoolEntry<'a>],
+    parameters: usize,
+    content: &'a [u8],
+) -> Result<(usize, Vec<Instruction>), Failure>
+    ensures { Gives (λ found. (found.0, found.1.items)) result (code_of (map entry_view pool.now) parameters content.now) }
+{
+    let mut cursor = Cursor::new(content);
+    let limits = limits(&mut cursor)?;
+    let size = cursor.u4()?;
+    if size > LONGEST {
+        return Err(Failure::NotThin);
+    }
+    let bytes = cursor.slice(size)?;
+    rest_is_plain(alloc, pool, &mut cursor)?;
+    let instructions = instructions(alloc, bytes)?;
+    let max_stack = usize::from(limits.max_stack);
+    if !is_small(limits, parameters) || !is_walked(parameters, max_stack, &instructions) {
+        return Err(Failure::NotThin);
+    }
+    Ok((max_stack, instructions))
+}

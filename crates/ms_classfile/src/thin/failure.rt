@@ -1,0 +1,36 @@
+ghost use Rattle.std.specs.Prelude.{◌≡◌};
+ghost use Rattle.ms_classfile.specs.declared.thin.failure.Failure.TheVariants.{NotThin, NoMemory};
+
+use ms_pool::Short;
+use std::alloc::{AllocError, AllocFailed};
+
+/// Why no method is read: the bytes are not a thin file, or memory ran out.
+#[derive(Clone, Copy, Debug, PartialEq, Eq)]
+pub enum Failure {
+    NotThin,
+    NoMemory,
+}
+
+impl From<Short> for Failure {
+    ghost from_gives = { λ _ failure. failure ≡ NotThin };
+
+    fn from(_short: Short) -> Failure {
+        Failure::NotThin
+    }
+}
+
+impl From<AllocError> for Failure {
+    ghost from_gives = { λ _ failure. failure ≡ NoMemory };
+
+    fn from(_error: AllocError) -> Failure {
+        Failure::NoMemory
+    }
+}
+
+impl<T: Drop> From<AllocFailed<T>> for Failure {
+    ghost from_gives = { λ _ failure. failure ≡ NoMemory };
+
+    fn from(_error: AllocFailed<T>) -> Failure {
+        Failure::NoMemory
+    }
+}
