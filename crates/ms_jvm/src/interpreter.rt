@@ -13,14 +13,14 @@ use std::alloc::{AllocError, Global};
 /// memory alone.
 pub fn run(
     alloc: Global,
-    max_stack: u16,
+    max_stack: usize,
     code: &[Instruction],
     words: &[i32],
 ) -> Result<i32, NoMemory>
     requires { IsTrue (is_walked (length words.now) max_stack 0 code.now) }
     ensures { IfOk result (λ word. returned words.now [] code.now ≡ Some word) }
 {
-    let mut stack = OperandStack::new(alloc);
+    let mut stack = OperandStack::with_capacity(alloc, max_stack)?;
     for instruction in code {
         if is_return(*instruction) {
             return Ok(stack.pop());

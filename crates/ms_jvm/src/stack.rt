@@ -1,7 +1,9 @@
-ghost use Rattle.std.specs.Prelude.{◌≡◌, ◌∷◌, ◌<◌, length, OnOk, OnErr};
+ghost use Rattle.std.specs.Prelude.{◌≡◌, ◌∷◌, ◌<◌, length, IfOk, OnOk, OnErr};
 
-use std::alloc::{AllocError, Global};
+use std::alloc::Global;
 use std::marker::Model;
+
+use ms_words::NoMemory;
 
 /// An operand stack (JVMS SE 8, section 2.6.2). Contracts see the list of its words, the top first.
 #[derive(Debug, Drop)]
@@ -20,17 +22,17 @@ impl Model for OperandStack {
 impl OperandStack {
     ghost use Rattle.std.specs.Prelude.{[]};
 
-    /// An empty stack.
-    pub fn new(alloc: Global) -> OperandStack
-        ensures { result ≡ [] }
+    /// An empty stack, with room for so many words.
+    pub fn with_capacity(alloc: Global, words: usize) -> Result<OperandStack, NoMemory>
+        ensures { IfOk result (λ stack. stack ≡ []) }
     {
-        OperandStack {
-            words: Vec::new(alloc),
-        }
+        Ok(OperandStack {
+            words: Vec::with_capacity(alloc, words)?,
+        })
     }
 
     /// Puts a word on top.
-    pub fn push(&mut self, word: i32) -> Result<(), AllocError>
+    pub fn push(&mut self, word: i32) -> Result<(), NoMemory>
         ensures ok { OnOk result (self.new ≡ word ∷ self.old) }
         ensures err { OnErr result (self.new ≡ self.old) }
     {

@@ -14,6 +14,7 @@ use ms_command::{Command, CommandRefusal, Numbers, Reply, read_command, write_re
 use ms_outside::{Fetch, Shelf};
 use ms_words::{Name, NoMemory};
 
+use crate::call::call;
 use crate::status::Status;
 
 /// What is written for a line: the text of its reply, or nothing for a line without a token. It fails

@@ -1,0 +1,4 @@
+pub mod Spans
+pub mod Preparing
+pub mod Handling
+pub mod Fed

@@ -1,0 +1,53 @@
+-- When the text for a command is ready.
+use Rattle.std.proofs.Common.{◌≡◌, ℕ, ◌≤◌, List, [], ◌∷◌, length, map, refl, sym, ap, ◌∙◌, subst, Option, Some, None, IfSome, ℤ}
+use Rattle.std.specs.List.{AllByRecursion}
+use Rattle.ms_outside.specs.Counts.{CountsGrow, ShelfCounts}
+use Rattle.ms_outside.specs.Shelves as shelves
+use Rattle.ms_outside.specs.Shelves.{Answer, File, IsWithinLimit, answer_of}
+use Rattle.ms_command.specs.declared.command.Command.TheVariants.{Once}
+use Rattle.ms_command.specs.Texts.{reply_text}
+use Rattle.ms_memoise.specs.declared.status.Status.{Status}
+use Rattle.ms_memoise.specs.declared.status.Status.TheVariants.{NoMemory}
+use Rattle.ms_memoise.specs.Replies.{once_reply}
+use Rattle.ms_memoise.specs.Events.{AreAnswers, HasCauseFor, ShelfSide}
+use Rattle.ms_memoise.specs.Feeding.{Hindered, Prepared, ShelfPasses}
+
+-- one answer that a fetch of a file of this name brought
+pub record Fetched (before now : ShelfSide) (name : List ℕ) (answer : Answer) : Type 0 where
+  pub size : IsWithinLimit answer
+  pub cause : HasCauseFor before now answer
+  pub told : IfSome before.files (λ files. answer ≡ answer_of files name)
+  pub passes : ShelfPasses before now
+
+pub prepared_once : (file name desc : List ℕ) (numbers : List ℤ) (answer : Answer) (before now : ShelfSide) (text : List ℕ) → Fetched before now file answer
+    → text ≡ reply_text (once_reply file name desc numbers answer) → Prepared (Some (Once file name desc numbers)) before now text
+prepared_once file name desc numbers answer before now text fetched is = record {
+  answers = answer ∷ [];
+  given = record {
+    each = refl;
+    size = (fetched.size, tt);
+    causes = (fetched.cause, tt);
+    told = each_told before fetched.told;
+  };
+  is = is;
+  passes = fetched.passes;
+}
+  where
+    told_at : (files : Option (List File)) → IfSome files (λ files. answer ≡ answer_of files file) → IfSome files (λ files. answer ∷ [] ≡ map (answer_of files) (file ∷ []))
+    told_at None told = tt
+    told_at (Some files) told = ap (λ a. a ∷ []) told
+    each_told : (before : ShelfSide) → IfSome before.files (λ files. answer ≡ answer_of files file) → IfSome before.files (λ files. answer ∷ [] ≡ map (answer_of files) (file ∷ []))
+    each_told before told = told_at before.files told
+
+pub hindered_memory : (status : Status) (before now : ShelfSide) → ShelfPasses before now → status ≡ NoMemory → Hindered status before now
+hindered_memory status before now passes is = subst (λ s. Hindered s before now) (sym is) (record { why = tt; passes = passes })
+
+-- what a fetch of a file says of the answer that it brought
+pub fetched : (before now : ShelfSide) (name file : List ℕ) → name ≡ file → (answer : Answer) → IfSome before.files (λ files. answer ≡ answer_of files name) → IsWithinLimit answer → HasCauseFor before now answer
+    → now.files ≡ before.files → CountsGrow before.counts now.counts → Fetched before now file answer
+fetched before now name file same answer told size cause files grow = record {
+  size = size;
+  cause = cause;
+  told = subst (λ n. IfSome before.files (λ files. answer ≡ answer_of files n)) same told;
+  passes = record { files = files; fetches = grow };
+}
