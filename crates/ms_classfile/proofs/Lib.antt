@@ -2,3 +2,5 @@ mod Example
 pub mod Repeated
 pub mod Only
 pub mod Decoding
+pub mod Steps
+pub mod Fields
