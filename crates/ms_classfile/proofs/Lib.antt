@@ -4,3 +4,5 @@ pub mod Only
 pub mod Decoding
 pub mod Steps
 pub mod Fields
+pub mod Pool
+pub mod Attributes

@@ -1,5 +1,5 @@
 -- Reads one after another, and the tests between them, taken apart.
-use Rattle.std.proofs.Common.{◌≡◌, ℕ, Bool, true, false, Option, Some, None, refl}
+use Rattle.std.proofs.Common.{◌≡◌, ℕ, Bool, true, false, cond, Option, Some, None, refl, ◌⊎◌, inl, inr}
 use Rattle.ms_classfile.specs.Reading.{◌>>=◌, provided}
 
 -- what was read first and what was read behind it, where both were read
@@ -17,3 +17,8 @@ some x = Some x
 
 pub some_is : {A : Type 0} (x y : A) → some x ≡ some y → x ≡ y
 some_is x y e = cc
+
+-- which way a test went
+pub either : {A : Type 0} (test : Bool) (x y z : A) → cond test x y ≡ z → ((test ≡ true) × (x ≡ z)) ⊎ ((test ≡ false) × (y ≡ z))
+either true x y z e = inl (refl, e)
+either false x y z e = inr (refl, e)
