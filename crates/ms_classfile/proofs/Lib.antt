@@ -6,3 +6,7 @@ pub mod Steps
 pub mod Fields
 pub mod Pool
 pub mod Attributes
+pub mod Instructions
+pub mod CodeParts
+pub mod MethodParts
+pub mod Files

@@ -1,5 +1,6 @@
 -- Reads one after another, and the tests between them, taken apart.
 use Rattle.std.proofs.Common.{◌≡◌, ℕ, Bool, true, false, cond, Option, Some, None, refl, ◌⊎◌, inl, inr}
+use Rattle.std.specs.Option.{option_map}
 use Rattle.ms_classfile.specs.Reading.{◌>>=◌, provided}
 
 -- what was read first and what was read behind it, where both were read
@@ -22,3 +23,8 @@ some_is x y e = cc
 pub either : {A : Type 0} (test : Bool) (x y z : A) → cond test x y ≡ z → ((test ≡ true) × (x ≡ z)) ⊎ ((test ≡ false) × (y ≡ z))
 either true x y z e = inl (refl, e)
 either false x y z e = inr (refl, e)
+
+-- what a value was made of
+pub mapped_some : {A B : Type 0} (f : A → B) (read : Option A) (y : B) → option_map f read ≡ Some y → (x : A) × (read ≡ Some x) × (f x ≡ y)
+mapped_some f (Some x) y found = (x, refl, some_is (f x) y found)
+mapped_some f None y found = absurd cc
