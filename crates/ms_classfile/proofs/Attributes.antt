@@ -33,7 +33,7 @@ attribute_takes pool start front place x takes found =
     let three = run_takes size.0 start (front ++ u2 name.0 ++ u4 size.0) size.1 content two.0 at_content in
     let regrouped : front ++ u2 name.0 ++ u4 size.0 ++ content.0 ≡ front ++ spelled_attribute made.0 = rw three.1.0 (simp append_assoc) in
     subst (λ (y : Attribute × Place). Takes start (front ++ spelled_attribute y.0) y.1.left × IsFound pool y.0) (some_is made x known.1)
-        (Takes-is start _ _ _ regrouped three.0, record { held = record { fits = record { name = one.1; content = rw three.1.0 two.1 }; named = known.0 }; bytes = three.1.1 }))))
+    (Takes-is start _ _ _ regrouped three.0, record { held = record { fits = record { name = one.1; content = rw three.1.0 two.1 }; named = known.0 }; bytes = three.1.1 }))))
 
 attribute_reaches : (pool : List Entry) (x : Attribute) (place : Place) (rest : List ℕ) → IsHeld pool x → place.left ≡ spelled_attribute x ++ rest → Reaches (attribute_at pool place) x rest
 unfolding attribute_at

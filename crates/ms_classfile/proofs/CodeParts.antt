@@ -74,8 +74,8 @@ code_takes pool parameters content x fits found =
     let long : size.0 ≡ length bytes.0 = sym three.1.0 in
     let made : Code = record { max_stack = limits.0.max_stack; max_locals = limits.0.max_locals; instructions = code; attributes = four.0 } in
     let whole : content ≡ spelled_code made =
-        four.1 ∙ ap (λ (n : ℕ). front ++ u4 n ++ bytes.0 ++ u2 0 ++ spelled_attributes four.0) long
-        ∙ ap (λ (b : List ℕ). front ++ u4 (length b) ++ b ++ u2 0 ++ spelled_attributes four.0) decoded.text in
+    four.1 ∙ ap (λ (n : ℕ). front ++ u4 n ++ bytes.0 ++ u2 0 ++ spelled_attributes four.0) long
+    ∙ ap (λ (b : List ℕ). front ++ u4 (length b) ++ b ++ u2 0 ++ spelled_attributes four.0) decoded.text in
     record {
       code = made;
       spelled = whole;

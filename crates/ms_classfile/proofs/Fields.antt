@@ -68,14 +68,14 @@ pub repeated_takes : {X : Type 0} (read : Place → Option (X × Place)) (spelle
 unfolding repeated
 repeated_takes {X = X} read spelled Fits each zero start front place x takes found =
     subst (λ (y : List X × Place). Takes start (front ++ flat_map spelled y.0) y.1.left × ((length y.0 ≡ 0) × AllByRecursion Fits y.0)) (some_is ([], place) x found)
-        (Takes-is start front (front ++ []) place.left (sym (append-nil front)) takes, (refl, tt))
+    (Takes-is start front (front ++ []) place.left (sym (append-nil front)) takes, (refl, tt))
 repeated_takes {X = X} read spelled Fits each (suc n) start front place x takes found =
     then_some (read place) _ x found (λ first at_first more.
     then_some (repeated read n first.1) _ x more (λ rest at_rest last.
     let one = each start front place first takes at_first in
     let others = repeated_takes read spelled Fits each n start (front ++ spelled first.0) first.1 rest one.0 at_rest in
     subst (λ (y : List X × Place). Takes start (front ++ flat_map spelled y.0) y.1.left × ((length y.0 ≡ suc n) × AllByRecursion Fits y.0)) (some_is (first.0 ∷ rest.0, rest.1) x last)
-        (Takes-is start (front ++ spelled first.0 ++ flat_map spelled rest.0) (front ++ (spelled first.0 ++ flat_map spelled rest.0)) rest.1.left (append_assoc front (spelled first.0) (flat_map spelled rest.0)) others.0, (ap suc others.1.0, (one.1, others.1.1)))))
+    (Takes-is start (front ++ spelled first.0 ++ flat_map spelled rest.0) (front ++ (spelled first.0 ++ flat_map spelled rest.0)) rest.1.left (append_assoc front (spelled first.0) (flat_map spelled rest.0)) others.0, (ap suc others.1.0, (one.1, others.1.1)))))
 
 abbrev pub ReachesEach : {X : Type 0} → (Place → Option (X × Place)) → (X → List ℕ) → (X → Type 0) → Type 0
 ReachesEach {X = X} read spelled Fits = (x : X) (place : Place) (rest : List ℕ) → Fits x → place.left ≡ spelled x ++ rest → Reaches (read place) x rest

@@ -1,13 +1,14 @@
 -- The thin file that is read is spelled by the bytes, and one that is spelled is read.
-use Rattle.std.proofs.Common.{◌≡◌, ℕ, ◌+◌, ◌^◌, ◌<◌, ◌≤◌, Bool, true, false, eqb, List, [], ◌∷◌, ◌++◌, length, Option, Some, None, refl, sym, ap, subst, ◌∙◌, append_assoc, arith, codes}
-use Rattle.std.specs.Prelude.{IsSomeAnd, is_none, nat_le, ◌&&◌, ◌==◌}
+use Rattle.std.proofs.Common.{◌≡◌, ℕ, ◌+◌, ◌^◌, ◌<◌, ◌≤◌, Bool, true, false, eqb, List, [], ◌∷◌, ◌++◌, length, Option, Some, None, refl, sym, ap, subst, ◌∙◌, append_assoc, arith, codes, inl, inr, All}
+use Rattle.std.specs.Prelude.{IsTrue, IsSomeAnd, is_none, nat_le, ◌&&◌, ◌==◌}
 use Rattle.std.specs.Str.{bytes_eq}
-use Rattle.std.proofs.lemmas.Bool.{and_parts, and_from, leb-true, le-leb, eqb-true, eq-eqb}
-use Rattle.std.proofs.lemmas.List.{append-nil}
+use Rattle.std.proofs.lemmas.Bool.{cases_lt, and_parts, and_from, leb-true, le-leb, eqb-true, eq-eqb}
+use Rattle.std.proofs.lemmas.List.{append-nil, get_or_past}
 use Rattle.std.proofs.lemmas.Slice.Eq.{bytes_eq-Decides}
 use Rattle.ms_words.specs.Throwables.{thrown_named}
 use Rattle.ms_pool.specs.Places.{Place, beginning}
 use Rattle.ms_pool.specs.Numbers.{IsBytes, width2, width4}
+use Rattle.ms_classfile.specs.Instructions.{is_walked}
 use Rattle.ms_classfile.specs.ThinFile.{Entry, Attribute, ThinFile, Method, IsThinClass, HasThinMethod, IsThinFile, u2, u4, magic, class_name, spelled_pool, spelled_attributes, spelled_file}
 use Rattle.ms_classfile.specs.Reading.{◌>>=◌, provided, u2_at, u4_at, is_ordinary, header_at, pool_at, class_part_at, counts_at, method_at, attributes_at, thin_method}
 use Rattle.ms_classfile.proofs.Steps.{then_some, provided_some, some_is}
@@ -41,7 +42,7 @@ header_takes start front place after takes found =
     let two = number_takes 2 width2 start (front ++ u4 magic) first.1 minor begun known.1 in
     let three = number_takes 2 width2 start (front ++ u4 magic ++ u2 minor.0) minor.1 major two.0 at_major in
     subst (λ (y : Place). TakesHeader start front y) (some_is major.1 after right.1)
-        (record { minor = minor.0; major = major.0; takes = three.0; fits = two.1; oldest = leb-true _ _ both.0; newest = leb-true _ _ both.1 }))))
+    (record { minor = minor.0; major = major.0; takes = three.0; fits = two.1; oldest = leb-true _ _ both.0; newest = leb-true _ _ both.1 }))))
 
 header_reaches : (minor major : ℕ) (place : Place) (rest : List ℕ) → minor < 2 ^ 16 → 45 ≤ major → major ≤ 52 → place.left ≡ u4 magic ++ (u2 minor ++ (u2 major ++ rest)) → (after : Place) × (header_at place ≡ Some after) × (after.left ≡ rest)
 unfolding header_at
@@ -123,9 +124,9 @@ counts_takes start front place after takes found =
     let two = number_takes 2 width2 start (front ++ u2 interfaces.0) interfaces.1 fields one.0 at_fields in
     let three = number_takes 2 width2 start (front ++ u2 interfaces.0 ++ u2 fields.0) fields.1 methods two.0 at_methods in
     let counts : front ++ u2 interfaces.0 ++ u2 fields.0 ++ u2 methods.0 ≡ front ++ u2 0 ++ u2 0 ++ u2 1 =
-        ap (λ (n : ℕ). front ++ u2 n ++ u2 fields.0 ++ u2 methods.0) (eqb-true _ _ none.0)
-        ∙ ap (λ (n : ℕ). front ++ u2 0 ++ u2 n ++ u2 methods.0) (eqb-true _ _ none.1)
-        ∙ ap (λ (n : ℕ). front ++ u2 0 ++ u2 0 ++ u2 n) (eqb-true _ _ both.1) in
+    ap (λ (n : ℕ). front ++ u2 n ++ u2 fields.0 ++ u2 methods.0) (eqb-true _ _ none.0)
+    ∙ ap (λ (n : ℕ). front ++ u2 0 ++ u2 n ++ u2 methods.0) (eqb-true _ _ none.1)
+    ∙ ap (λ (n : ℕ). front ++ u2 0 ++ u2 0 ++ u2 n) (eqb-true _ _ both.1) in
     subst (λ (y : Place). Takes start (front ++ u2 0 ++ u2 0 ++ u2 1) y.left) (some_is methods.1 after right.1) (Takes-is start _ _ _ counts three.0))))
 
 counts_reach : (place : Place) (rest : List ℕ) → place.left ≡ u2 0 ++ (u2 0 ++ (u2 1 ++ rest)) → (after : Place) × (counts_at place ≡ Some after) × (after.left ≡ rest)
@@ -194,8 +195,8 @@ file_reaches bytes method thin =
     let counted : List ℕ = u2 0 ++ (u2 0 ++ (u2 1 ++ methods)) in
     let named : List ℕ = u2 file.access ++ (u2 file.this_class ++ (u2 file.super_class ++ counted)) in
     let text : spelled_file file ≡ u4 magic ++ (u2 file.minor ++ (u2 file.major ++ (spelled_pool file.pool ++ named))) =
-        regrouped (u4 magic) (u2 file.minor) (u2 file.major) (spelled_pool file.pool) (u2 file.access) (u2 file.this_class) (u2 file.super_class) (u2 0) (u2 0) (u2 1)
-            (u2 file.method_access) (u2 file.method_name) (u2 file.method_descriptor) (spelled_attributes file.method_attributes) (spelled_attributes file.attributes) in
+    regrouped (u4 magic) (u2 file.minor) (u2 file.major) (spelled_pool file.pool) (u2 file.access) (u2 file.this_class) (u2 file.super_class) (u2 0) (u2 0) (u2 1)
+    (u2 file.method_access) (u2 file.method_name) (u2 file.method_descriptor) (spelled_attributes file.method_attributes) (spelled_attributes file.attributes) in
     let start = header_reaches file.minor file.major (beginning bytes) (spelled_pool file.pool ++ named) class.minor class.oldest class.newest (thin.spelled ∙ text) in
     let pool = pool_reaches file.pool start.0 named (record { entries = class.entries; each = class.each; links = class.links }) start.2 in
     let parent = class_reaches file pool.after counted class pool.left in
@@ -204,3 +205,32 @@ file_reaches bytes method thin =
     let attributes = attributes_reaches file.pool file.attributes read.after [] (record { fit = class.attributes; named = class.named }) read.left in
     let ended : eqb (length attributes.after.left) 0 ≡ true = eq-eqb _ _ (ap length attributes.left) in
     rw (start.1, pool.found, parent.1, counts.1, read.found, attributes.found, ended) refl
+
+pub bytes_from_all : (bytes : List ℕ) → All (λ byte. byte < 256) bytes → IsBytes bytes
+bytes_from_all bytes all i =
+    elim (cases_lt i (length bytes)) [
+      | inl lt ↦ all i 0 lt
+      | inr le ↦ rw (get_or_past bytes i 0 le) (omega arith)
+    ]
+
+-- two methods of one thin file are one
+pub one_method : (bytes : List ℕ) (first second : Method) → IsThinFile bytes first → IsThinFile bytes second → first ≡ second
+one_method bytes first second is_first is_second = some_is first second (sym (file_reaches bytes first is_first) ∙ file_reaches bytes second is_second)
+
+-- what a reader may count on
+pub record IsReady (method : Method) : Type 0 where
+  pub walked : IsTrue (is_walked method.parameters method.max_stack 0 method.instructions)
+  pub low : method.max_stack ≤ 256
+  pub few : method.parameters ≤ 4
+
+ready : (file : ThinFile) (method : Method) → HasThinMethod file method → IsReady method
+ready file method has = record {
+  walked = rw (← has.stack, ← has.instructions) has.thin.walked;
+  low = rw (← has.stack) has.thin.stack;
+  few = has.parameters;
+}
+
+pub method_ready : (bytes : List ℕ) (method : Method) → IsBytes bytes → thin_method bytes ≡ Some method → IsReady method
+method_ready bytes method fits found =
+    let thin = file_takes bytes method fits found in
+    ready thin.file method thin.has_method

@@ -70,7 +70,7 @@ pub record AreInstructions (bytes : List ℕ) (code : List Instruction) : Type 0
 one_more : (instruction : Instruction) (front bytes : List ℕ) (more code : List Instruction) → Spells instruction front → AreInstructions bytes more → (instruction ∷ more) ≡ code → AreInstructions (front ++ bytes) code
 one_more instruction front bytes more code spells rest e =
     subst (λ (c : List Instruction). AreInstructions (front ++ bytes) c) e
-        (record { text = rw (spells.text, ← rest.text) refl; plain = (spells.plain, rest.plain) })
+    (record { text = rw (spells.text, ← rest.text) refl; plain = (spells.plain, rest.plain) })
 
 bipush_spells : (byte next : ℕ) → eqb byte 16 ≡ true → next < 256 → Spells (Bipush (cast_signed w8 next)) (byte ∷ next ∷ [])
 bipush_spells byte next e below = record {

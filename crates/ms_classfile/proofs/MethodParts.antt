@@ -131,7 +131,7 @@ method_reaches file method place rest has spelled =
     let one = only_reaches (filter (is_named file.pool (codes "Code")) file.method_attributes) (spelled_code file.code) has.code in
     let parameters : parameters_of method.descriptor ≡ Some method.parameters = ap parameters_of has.kinds ∙ parameters_reach method.parameters has.parameters in
     let code : code_of file.pool method.parameters one.attribute.content ≡ Some (method.max_stack, method.instructions) =
-        ap (code_of file.pool method.parameters) one.holds ∙ code_reaches file.pool method.parameters file.code has.thin ∙ rw (has.stack, has.instructions) refl in
+    ap (code_of file.pool method.parameters) one.holds ∙ code_reaches file.pool method.parameters file.code has.thin ∙ rw (has.stack, has.instructions) refl in
     record {
       after = attributes.after;
       found = rw (access.found, number.found, descriptor.found, has.static, attributes.found, has.name, has.descriptor, parameters, one.found, code) refl;

@@ -19,7 +19,7 @@ text_takes start front place x takes found =
     let two = run_takes size.0 start (front ++ u1 1 ++ u2 size.0) size.1 text one.0 at_text in
     let regrouped : front ++ u1 1 ++ u2 size.0 ++ text.0 ≡ front ++ spelled_entry (Utf8 text.0) = rw two.1.0 (simp append_assoc) in
     subst (λ (y : Entry × Place). Takes start (front ++ spelled_entry y.0) y.1.left × EntryFits y.0) (some_is (Utf8 text.0, text.1) x last)
-        (Takes-is start _ _ _ regrouped two.0, rw two.1.0 one.1)))
+    (Takes-is start _ _ _ regrouped two.0, rw two.1.0 one.1)))
 
 class_takes : (start front : List ℕ) (place : Place) (x : Entry × Place) → Takes start (front ++ u1 7) place.left → class_at place ≡ Some x → Takes start (front ++ spelled_entry x.0) x.1.left × EntryFits x.0
 unfolding class_at
@@ -27,7 +27,7 @@ class_takes start front place x takes found =
     then_some (u2_at place) _ x found (λ name at_name last.
     let one = number_takes 2 width2 start (front ++ u1 7) place name takes at_name in
     subst (λ (y : Entry × Place). Takes start (front ++ spelled_entry y.0) y.1.left × EntryFits y.0) (some_is (Class name.0, name.1) x last)
-        (Takes-is start _ _ _ (append_assoc front (u1 7) (u2 name.0)) one.0, one.1))
+    (Takes-is start _ _ _ (append_assoc front (u1 7) (u2 name.0)) one.0, one.1))
 
 tag_is : (start front : List ℕ) (tag : ℕ × Place) (n : ℕ) → Takes start (front ++ u1 tag.0) tag.1.left → eqb tag.0 n ≡ true → Takes start (front ++ u1 n) tag.1.left
 tag_is start front tag n takes e = Takes-is start _ _ _ (ap (λ (k : ℕ). front ++ u1 k) (eqb-true _ _ e)) takes
@@ -74,9 +74,9 @@ pool_takes start front place x takes found =
     let all = repeated_takes entry_at spelled_entry EntryFits entry_takes (count.0 - 1) start (front ++ u2 count.0) count.1 pool one.0 several.1 in
     let number : count.0 ≡ length pool.0 + 1 = omega (arith, all.1.0) in
     let regrouped : front ++ u2 count.0 ++ flat_map spelled_entry pool.0 ≡ front ++ spelled_pool pool.0 =
-        append_assoc front (u2 count.0) (flat_map spelled_entry pool.0) ∙ ap (λ (n : ℕ). front ++ (u2 n ++ flat_map spelled_entry pool.0)) number in
+    append_assoc front (u2 count.0) (flat_map spelled_entry pool.0) ∙ ap (λ (n : ℕ). front ++ (u2 n ++ flat_map spelled_entry pool.0)) number in
     subst (λ (y : List Entry × Place). Takes start (front ++ spelled_pool y.0) y.1.left × IsPool y.0) (some_is pool x linked.1)
-        (Takes-is start _ _ _ regrouped all.0, record { entries = rw (← number) one.1; each = all.1.1; links = linked.0 })))
+    (Takes-is start _ _ _ regrouped all.0, record { entries = rw (← number) one.1; each = all.1.1; links = linked.0 })))
 
 pub pool_reaches : (pool : List Entry) (place : Place) (rest : List ℕ) → IsPool pool → place.left ≡ spelled_pool pool ++ rest → Reaches (pool_at place) pool rest
 unfolding pool_at

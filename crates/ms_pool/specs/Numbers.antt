@@ -1,5 +1,5 @@
 -- What is read at a place is spelled there, and what is spelled there is read.
-use Rattle.std.proofs.Common.{◌≡◌, ℕ, ◌+◌, ◌^◌, ◌<◌, ◌≤◌, Bool, true, false, cond, ltb, List, [], ◌∷◌, ◌++◌, length, take, drop, Result, Ok, Err, refl, sym, ap, subst, ◌∙◌, arith, inl, inr}
+use Rattle.std.proofs.Common.{◌≡◌, ℕ, ◌+◌, ◌^◌, ◌<◌, ◌≤◌, Bool, true, false, cond, ltb, List, [], ◌∷◌, ◌++◌, length, take, drop, Ok, Err, refl, sym, ap, subst, ◌∙◌, arith, inl, inr}
 use Rattle.std.specs.Prelude.{slice_index}
 use Rattle.std.proofs.lemmas.Bool.{cases_lt, ltb-false, le-ltb}
 use Rattle.std.proofs.lemmas.List.{take_at, drop_at, length-append, length-take, get_or-drop, get_or-take, get_or_past}
@@ -56,9 +56,9 @@ number_is_read n wide place x fits found =
     let g = long_enough (ltb (length place.left) n) (record { at = place.at }) (big_number n place.left, behind place n) x found in
     let long : n ≤ length place.left = ltb-false _ _ g.0 in
     let same : number_bytes n (big_number n place.left) ≡ take n place.left =
-        ap (number_bytes n) (sym (big_from-take 0 n n place.left (omega arith))) ∙ wide.back (take n place.left) (omega (arith, length-take n place.left)) (IsBytes-take n place.left fits) in
+    ap (number_bytes n) (sym (big_from-take 0 n n place.left (omega arith))) ∙ wide.back (take n place.left) (omega (arith, length-take n place.left)) (IsBytes-take n place.left fits) in
     subst (λ (y : ℕ × Place). IsRead n (number_bytes n y.0) place y.1 × (y.0 < 256 ^ n)) g.1
-        (record { front = same; enough = long; moved = refl }, big_from-lt 0 n place.left fits)
+    (record { front = same; enough = long; moved = refl }, big_from-lt 0 n place.left fits)
 
 pub run_is_read : (n : ℕ) (place : Place) (x : List ℕ × Place) → run_at n place ≡ Ok x → IsRead n x.0 place x.1
 run_is_read n place x found =
