@@ -63,3 +63,9 @@ pub is_done : (front : List Instruction) (bytes : List ℕ) (total : Option (Lis
     → with_read front (instructions_of bytes) ≡ total → total ≡ Some front
 unfolding instructions_of
 is_done front bytes total none so_far = sym so_far ∙ ap (λ (left : List ℕ). with_read front (instructions_of left)) none ∙ ap Some (append-nil front)
+
+-- the instructions of bytes that begin with this one
+pub splits : (bytes : List ℕ) (first : Instruction) (after : List ℕ) → first_instruction bytes ≡ Some (first, after) → instructions_of bytes ≡ option_map (λ more. first ∷ more) (instructions_of after)
+unfolding behind_first
+splits [] first after found = absurd cc
+splits (byte ∷ bytes) first after found = split byte bytes ∙ ap behind_first found

@@ -6,4 +6,7 @@ mod instruction;
 mod thin;
 
 pub use instruction::Instruction;
-pub use thin::{ThinMethod, read_thin};
+pub use thin::{ThinMethod, read_thin, thin_files_are_read};
+
+#[cfg(test)]
+mod tests;

@@ -1,8 +1,9 @@
 //! Thin files: class files of one class with one static method over ints, whose code has no branch.
 
-ghost use Rattle.std.specs.Prelude.{◌≡◌, ◌≤◌, IfOk, IfSome, IsTrue};
+ghost use Rattle.std.specs.Prelude.{◌≡◌, ◌<◌, ◌≤◌, ℕ, List, All, Some, IfOk, IfSome, IsTrue};
 ghost use Rattle.std.specs.Option.{option_map};
 ghost use Rattle.ms_classfile.specs.Instructions.{is_walked};
+ghost use Rattle.ms_classfile.specs.ThinFile.{Method, IsThinFile};
 ghost use Rattle.ms_classfile.specs.Reading.{thin_method};
 ghost use Rattle.ms_classfile.specs.Found.{Gives, view};
 
@@ -14,14 +15,13 @@ mod method;
 mod parts;
 mod pool;
 
-pub use parts::ThinMethod;
-
 use attributes::attributes;
 use class::{class_part, counts, header};
 use failure::Failure;
 use method::method;
 use ms_pool::Cursor;
 use ms_words::NoMemory;
+pub use parts::ThinMethod;
 use pool::pool;
 use std::alloc::{AllocError, Global};
 
@@ -47,6 +47,11 @@ fn file(alloc: Global, bytes: &[u8]) -> Result<ThinMethod<'_>, Failure>
 pub fn read_thin(alloc: Global, bytes: &[u8]) -> Result<Option<ThinMethod<'_>>, NoMemory>
     // What is found is what the definition gives for these bytes.
     ensures found { IfOk result (λ found. option_map view found ≡ thin_method bytes.now) }
+
+    // Its code is walked, so that each instruction finds its operands, below these limits.
+    ensures walked { IfOk result (λ found. IfSome found (λ method. IsTrue (is_walked method.parameters method.max_stack 0 method.instructions.items))) }
+    ensures low { IfOk result (λ found. IfSome found (λ method. method.max_stack ≤ 256)) }
+    ensures few { IfOk result (λ found. IfSome found (λ method. method.parameters ≤ 4)) }
 {
     match file(alloc, bytes) {
         Ok(method) => Ok(Some(method)),
@@ -54,3 +59,14 @@ pub fn read_thin(alloc: Global, bytes: &[u8]) -> Result<Option<ThinMethod<'_>>, 
         Err(Failure::NoMemory) => Err(AllocError),
     }
 }
+
+/// The law of thin files. Reading, which goes over the bytes from left to right, and the rules for a
+/// thin file, which say of what parts it is spelled and what holds of them, agree. It does nothing.
+pub fn thin_files_are_read()
+    // What is read is a thin file, spelled by all of the bytes.
+    ensures read { (bytes : List ℕ) (method : Method) → All (λ byte. byte < 256) bytes → thin_method bytes ≡ Some method → IsThinFile bytes method }
+    // A thin file is read.
+    ensures only { (bytes : List ℕ) (method : Method) → IsThinFile bytes method → thin_method bytes ≡ Some method }
+    // It has one method.
+    ensures one { (bytes : List ℕ) (first second : Method) → IsThinFile bytes first → IsThinFile bytes second → first ≡ second }
+{}

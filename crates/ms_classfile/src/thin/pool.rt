@@ -58,10 +58,7 @@ fn entries<'a>(
 
 /// The constant pool: texts, and classes whose names are texts of it (JVMS SE 8, section 4.4).
 #[tactic(auto, unfolding(crate::specs::Reading::pool_at))]
-pub fn pool<'a>(
-    alloc: Global,
-    cursor: &mut Cursor<'a>,
-) -> Result<Vec<PoolEntry<'a>>, Failure>
+pub fn pool<'a>(alloc: Global, cursor: &mut Cursor<'a>) -> Result<Vec<PoolEntry<'a>>, Failure>
     ensures { Leads (λ entries. map entry_view entries.items) result cursor.new (pool_at cursor.old) }
 {
     let count = cursor.u2()?;
