@@ -4,3 +4,4 @@ pub mod Events
 pub mod Statuses
 pub mod Conversations
 pub mod Feeding
+pub mod Turns

@@ -1,6 +1,7 @@
-ghost use Rattle.std.specs.Prelude.{◌≤◌, ℕ};
-ghost use Rattle.ms_memoise.specs.Conversations.{Conversation, outside};
+ghost use Rattle.std.specs.Prelude.{ℕ, ◌<◌, MatchResult};
+ghost use Rattle.ms_memoise.specs.Conversations.{Conversation, outside, sink_side};
 ghost use Rattle.ms_memoise.specs.Events.{shelf_side};
+ghost use Rattle.ms_memoise.specs.Turns.{AtLimit, Finishes, TurnBroke, Turned, last_lines};
 
 use std::alloc::Global;
 
@@ -49,6 +50,13 @@ fn turn<S: Source, F: Shelf, K: Sink>(
     sink: &mut K,
 ) -> Result<u32, Status>
     requires { 0 < most }
+    ensures { MatchResult result
+        (λ count. Turned most line.old.items count line.new.items
+            (outside (S.left source.old) (S.faults source.old) (shelf_side (F.files shelf.old) (F.counts shelf.old)) (K.taken sink.old) (K.faults sink.old))
+            (outside (S.left source.new) (S.faults source.new) (shelf_side (F.files shelf.new) (F.counts shelf.new)) (K.taken sink.new) (K.faults sink.new)))
+        (λ status. TurnBroke status most line.old.items
+            (outside (S.left source.old) (S.faults source.old) (shelf_side (F.files shelf.old) (F.counts shelf.old)) (K.taken sink.old) (K.faults sink.old))
+            (outside (S.left source.new) (S.faults source.new) (shelf_side (F.files shelf.new) (F.counts shelf.new)) (K.taken sink.new) (K.faults sink.new))) }
 {
     let mut buffer = [0; MOST_AT_ONCE];
     let room = MOST_AT_ONCE.min(most as usize);
@@ -58,4 +66,37 @@ fn turn<S: Source, F: Shelf, K: Sink>(
     };
     feed(alloc, &buffer[..count], line, shelf, sink)?;
     Ok(count as u32)
+}
+
+/// Does what the line asks for that the end of the source ends, where it isn't empty.
+fn finish<F: Shelf, K: Sink>(alloc: Global, line: &[u8], shelf: &mut F, sink: &mut K) -> Status
+    ensures { Finishes result (last_lines line.now) (shelf_side (F.files shelf.old) (F.counts shelf.old)) (shelf_side (F.files shelf.new) (F.counts shelf.new)) (sink_side (K.taken sink.old) (K.faults sink.old)) (sink_side (K.taken sink.new) (K.faults sink.new)) }
+{
+    if line.is_empty() {
+        return Status::Done;
+    }
+    match respond(alloc, line, shelf, sink) {
+        Ok(()) => Status::Done,
+        Err(status) => status,
+    }
+}
+
+/// Sees whether the source ends where no more of its bytes are to be taken.
+fn at_limit<S: Source, F: Shelf, K: Sink>(
+    alloc: Global,
+    line: &[u8],
+    source: &mut S,
+    shelf: &mut F,
+    sink: &mut K,
+) -> Status
+    ensures { AtLimit result line.now
+        (outside (S.left source.old) (S.faults source.old) (shelf_side (F.files shelf.old) (F.counts shelf.old)) (K.taken sink.old) (K.faults sink.old))
+        (outside (S.left source.new) (S.faults source.new) (shelf_side (F.files shelf.new) (F.counts shelf.new)) (K.taken sink.new) (K.faults sink.new)) }
+{
+    let mut buffer = [0; 1];
+    match source.read(&mut buffer) {
+        Err(_) => Status::ReadFault,
+        Ok(0) => finish(alloc, line, shelf, sink),
+        Ok(_) => Status::TooMuchInput,
+    }
 }

@@ -4,7 +4,9 @@
 
 mod answer;
 mod call;
+mod conversation;
 mod feed;
 mod status;
 
+pub use conversation::converse;
 pub use status::Status;

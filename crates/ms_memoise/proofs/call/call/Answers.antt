@@ -1,4 +1,0 @@
-use Rattle.ms_memoise.proofs.call.call.Goals as goal
-
-pub run-requires : goal.run-requires
-run-requires c = ?
