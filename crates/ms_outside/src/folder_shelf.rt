@@ -1,4 +1,4 @@
-ghost use Rattle.std.specs.Prelude.{◌≡◌, ◌≢◌, IfSome, Option, List, None, Some};
+ghost use Rattle.std.specs.Prelude.{◌≡◌, ◌≢◌, IfSome, IsUtf8, Option, List, None, Some};
 ghost use Rattle.ms_outside.specs.Counts.{ShelfCounts};
 ghost use Rattle.ms_outside.specs.Shelves.{File, FetchHasCauses, IsWithinLimit, answer_of_contents, answered};
 ghost use Rattle.ms_outside.specs.Memory.{counts_after};
@@ -54,6 +54,7 @@ impl<R: Files + Drop> Shelf for FolderShelf<R> {
         ensures size { IfSome (answered result) IsWithinLimit }
         ensures causes { FetchHasCauses self.old self.new result }
         ensures after { self.new ≡ counts_after self.old result }
+        ensures no_text { ¬ IsUtf8 name.now → result ≡ Fetch.Absent }
     {
         let fetched = fetch_file(alloc, &self.files, name);
         self.tally.count(&fetched);
@@ -63,7 +64,8 @@ impl<R: Files + Drop> Shelf for FolderShelf<R> {
 
 /// What the file of this name answers. A name that is no UTF-8 text is no file's.
 fn fetch_file<R: Files>(alloc: Global, files: &R, name: &[u8]) -> Fetch
-    ensures { IfSome (answered result) IsWithinLimit }
+    ensures size { IfSome (answered result) IsWithinLimit }
+    ensures no_text { ¬ IsUtf8 name.now → result ≡ Fetch.Absent }
 {
     let Ok(path) = str::from_utf8(name) else {
         return Fetch::Absent;
