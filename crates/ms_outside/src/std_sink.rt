@@ -1,7 +1,7 @@
 ghost use Rattle.std.specs.Prelude.{◌≡◌, ◌<◌, ◌≤◌, ◌↔◌, IfOk, IsOk, IsTrue, length};
 ghost use Rattle.ms_outside.specs.Counts.{HasCause};
 ghost use Rattle.ms_outside.specs.Sinks.{WriteTakes};
-ghost use Rattle.ms_outside.specs.Telling.{Telling};
+ghost use Rattle.ms_outside.specs.Telling.{Telling, faults_after};
 
 use crate::{Failed, Sink};
 use std::io;
@@ -44,6 +44,7 @@ impl<W: Write + Drop> Sink for StdSink<W> {
         ensures progress { IfOk result (λ n. 0 < length piece.now → 0 < n) }
         ensures bytes { WriteTakes self.old.known self.new.known result piece.now }
         ensures cause { HasCause self.old.faults self.new.faults result }
+        ensures faults { self.new.faults ≡ faults_after self.old.faults result }
         ensures empty { length piece.now ≡ 0 → IsOk result }
     {
         if piece.is_empty() {
