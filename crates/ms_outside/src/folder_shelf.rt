@@ -1,4 +1,5 @@
-ghost use Rattle.std.specs.Prelude.{◌≡◌, ◌≢◌, IfSome, Option, List, None, Some};
+ghost use Rattle.std.specs.Prelude.{◌≡◌, ◌≢◌, IfOk, IfErr, IfSome, OnOk, IsUtf8, Option, List, None, Some};
+ghost use Rattle.std.specs.IoError.{error_kind};
 ghost use Rattle.ms_outside.specs.Counts.{ShelfCounts};
 ghost use Rattle.ms_outside.specs.Shelves.{File, FetchHasCauses, IsWithinLimit, answer_of_contents, answered};
 ghost use Rattle.ms_outside.specs.Memory.{counts_after};
@@ -8,10 +9,10 @@ use crate::shelf::MOST_BYTES;
 use crate::tally::Tally;
 use crate::{Fetch, Shelf};
 use std::alloc::Global;
-use std::fs;
 use std::io::{ErrorKind, Read};
 use std::marker::Model;
 use std::rt::Files;
+use std::{fs, io};
 
 /// How many bytes one read of a file asks for.
 const CHUNK_BYTES: usize = 4096;
@@ -54,6 +55,7 @@ impl<R: Files + Drop> Shelf for FolderShelf<R> {
         ensures size { IfSome (answered result) IsWithinLimit }
         ensures causes { FetchHasCauses self.old self.new result }
         ensures after { self.new ≡ counts_after self.old result }
+        ensures no_text { ¬ IsUtf8 name.now → result ≡ Fetch.Absent }
     {
         let fetched = fetch_file(alloc, &self.files, name);
         self.tally.count(&fetched);
@@ -63,12 +65,23 @@ impl<R: Files + Drop> Shelf for FolderShelf<R> {
 
 /// What the file of this name answers. A name that is no UTF-8 text is no file's.
 fn fetch_file<R: Files>(alloc: Global, files: &R, name: &[u8]) -> Fetch
-    ensures { IfSome (answered result) IsWithinLimit }
+    ensures size { IfSome (answered result) IsWithinLimit }
+    ensures no_text { ¬ IsUtf8 name.now → result ≡ Fetch.Absent }
 {
     let Ok(path) = str::from_utf8(name) else {
         return Fetch::Absent;
     };
-    match fs::open(files, path) {
+    fetch_opened(alloc, fs::open(files, path))
+}
+
+/// What an open answers: what the file holds, or what its error tells.
+fn fetch_opened<F: Read + Drop>(alloc: Global, opened: io::Result<F>) -> Fetch
+    ensures answer { IfOk opened (λ file. IfSome (F.remaining file) (λ bytes. IfSome (answered result) (λ answer. answer ≡ answer_of_contents (Some bytes)))) }
+    ensures size { IfSome (answered result) IsWithinLimit }
+    ensures refused { IfErr opened (λ error. result ≡ open_answer (error_kind error)) }
+    ensures present { OnOk opened (result ≢ Fetch.Absent) }
+{
+    match opened {
         Ok(mut file) => read_whole(alloc, &mut file),
         Err(error) => refused_open(error.kind()),
     }

@@ -1,4 +1,4 @@
-ghost use Rattle.std.specs.Prelude.{◌≡◌, ℕ, List, [], ◌≤◌, ◌↔◌, Some, length, IfOk, IsErr, IsTrue};
+ghost use Rattle.std.specs.Prelude.{◌≡◌, ℕ, List, [], ◌≤◌, ◌↔◌, Some, length, IfOk, OnErr, IsErr, IsTrue};
 ghost use Rattle.std.specs.Io.KnownBytes.{ReadConsumes};
 ghost use Rattle.ms_outside.specs.Counts.{HasCause};
 ghost use Rattle.ms_outside.specs.Memory.{SourceState, is_listed, raised, read_count, source_after};
@@ -49,6 +49,7 @@ impl Source for MemorySource {
         ensures listed { IsErr result ↔ IsTrue (is_listed self.old.fails (raised self.old.calls)) }
         ensures count { IfOk result (λ n. n ≡ read_count self.old.left (length buf.old)) }
         ensures after { self.new ≡ source_after self.old (length buf.old) }
+        ensures untouched { OnErr result (buf.new ≡ buf.old) }
     {
         if self.calls.next() {
             self.faults = self.faults.saturating_add(1);

@@ -1,9 +1,10 @@
-ghost use Rattle.std.specs.Prelude.{◌≡◌, ◌<◌, ◌≤◌, IfOk, IsOk, length};
+ghost use Rattle.std.specs.Prelude.{◌≡◌, ◌<◌, ◌≤◌, ◌↔◌, IfOk, IsOk, IsTrue, length};
 ghost use Rattle.ms_outside.specs.Counts.{HasCause};
 ghost use Rattle.ms_outside.specs.Sinks.{WriteTakes};
-ghost use Rattle.ms_outside.specs.Telling.{Telling};
+ghost use Rattle.ms_outside.specs.Telling.{Telling, faults_after};
 
 use crate::{Failed, Sink};
+use std::io;
 use std::io::Write;
 use std::marker::Model;
 
@@ -43,6 +44,7 @@ impl<W: Write + Drop> Sink for StdSink<W> {
         ensures progress { IfOk result (λ n. 0 < length piece.now → 0 < n) }
         ensures bytes { WriteTakes self.old.known self.new.known result piece.now }
         ensures cause { HasCause self.old.faults self.new.faults result }
+        ensures faults { self.new.faults ≡ faults_after self.old.faults result }
         ensures empty { length piece.now ≡ 0 → IsOk result }
     {
         if piece.is_empty() {
@@ -65,13 +67,20 @@ fn write_once<W: Write>(writer: &mut W, piece: &[u8]) -> Result<usize, Failed>
     ensures progress { IfOk result (λ n. 0 < n) }
     ensures bytes { WriteTakes (W.contents writer.old) (W.contents writer.new) result piece.now }
 {
-    let written = writer.write(piece);
-    let Ok(count) = written else {
+    let Ok(count) = writer.write(piece) else {
         return Err(Failed);
     };
     let flushed = writer.flush();
-    if count == 0 || flushed.is_err() {
-        return Err(Failed);
+    if is_done(count, &flushed) {
+        Ok(count)
+    } else {
+        Err(Failed)
     }
-    Ok(count)
+}
+
+/// A write of a piece that isn't empty is done where the writer took some of it and flushed it.
+fn is_done(count: usize, flushed: &io::Result<()>) -> bool
+    ensures { IsTrue result ↔ ((0 < count) × IsOk flushed.now) }
+{
+    count > 0 && flushed.is_ok()
 }

@@ -1,7 +1,7 @@
 ghost use Rattle.std.specs.Prelude.{◌≡◌, ◌≤◌, IfOk, length};
 ghost use Rattle.std.specs.Io.KnownBytes.{ReadConsumes};
 ghost use Rattle.ms_outside.specs.Counts.{HasCause};
-ghost use Rattle.ms_outside.specs.Telling.{Telling};
+ghost use Rattle.ms_outside.specs.Telling.{Telling, faults_after};
 
 use crate::{Failed, Source};
 use std::io::Read;
@@ -39,6 +39,7 @@ impl<R: Read + Drop> Source for StdSource<R> {
         ensures within { IfOk result (λ n. n ≤ length buf.new) }
         ensures bytes { ReadConsumes self.old.known self.new.known result buf.new }
         ensures cause { HasCause self.old.faults self.new.faults result }
+        ensures faults { self.new.faults ≡ faults_after self.old.faults result }
     {
         match self.reader.read(buf) {
             Ok(count) => Ok(count),

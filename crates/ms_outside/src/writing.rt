@@ -7,6 +7,7 @@ use crate::{Failed, Sink};
 
 /// Hands all these bytes to the sink. Where a write fails, the sink has taken some first bytes of
 /// them, perhaps none, and nothing else.
+#[tactic(auto, using(crate::proofs::Parts::written_more))]
 pub fn write_all<K: Sink>(sink: &mut K, bytes: &[u8]) -> Result<(), Failed>
     ensures whole { OnOk result (Appends (K.taken sink.old) (K.taken sink.new) bytes.now) }
     ensures part { OnErr result (TakesPart (K.taken sink.old) (K.taken sink.new) bytes.now) }
@@ -14,7 +15,8 @@ pub fn write_all<K: Sink>(sink: &mut K, bytes: &[u8]) -> Result<(), Failed>
 {
     let mut at = 0;
     while at < bytes.len() {
-        at += sink.write(&bytes[at..])?;
+        let count = sink.write(&bytes[at..])?;
+        at += count;
     }
     Ok(())
 }
