@@ -1,9 +1,8 @@
 ghost use Rattle.std.specs.Prelude.{◌≡◌, ◌∷◌, ◌<◌, length, IfOk, OnOk, OnErr};
 
+use ms_words::NoMemory;
 use std::alloc::Global;
 use std::marker::Model;
-
-use ms_words::NoMemory;
 
 /// An operand stack (JVMS SE 8, section 2.6.2). Contracts see the list of its words, the top first.
 #[derive(Debug, Drop)]

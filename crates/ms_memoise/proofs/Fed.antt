@@ -52,4 +52,4 @@ pub broke_one_more : (status : Status) (first kept bytes : List ℕ) (i : ℕ) (
 broke_one_more status first kept bytes i a b c s t u within so_far p q =
     let front = subst (λ all. Broke status all a c s u) (ended_one_more first kept bytes i within so_far) (did_broke status _ _ a b c s t u p q) in
     subst (λ all. Broke status all a c s u) (sym (ended_append first (take (i + 1) bytes) (drop (i + 1) bytes)) ∙ ap (ended_lines first) (take-append-drop (i + 1) bytes))
-        (broke_before status _ (ended_lines (fed_kept first (take (i + 1) bytes)) (drop (i + 1) bytes)) a c s u front)
+    (broke_before status _ (ended_lines (fed_kept first (take (i + 1) bytes)) (drop (i + 1) bytes)) a c s u front)

@@ -156,7 +156,7 @@ broke_before status xs ys a b s t p = record {
 pub did_broke : (status : Status) (xs ys : List (List ℕ)) (a b c : ShelfSide) (s t u : SinkSide) → Did xs a b s t → Broke status ys b c t u → Broke status (xs ++ ys) a c s u
 did_broke status xs ys a b c s t u p q =
     let count : length (p.events ++ q.events) ≡ length xs + length q.events =
-        length-append p.events q.events ∙ ap (λ n. n + length q.events) (sym (length_lines p.events) ∙ ap length p.lines) in
+    length-append p.events q.events ∙ ap (λ n. n + length q.events) (sym (length_lines p.events) ∙ ap length p.lines) in
     record {
       events = p.events ++ q.events;
       part = q.part;
@@ -171,7 +171,7 @@ did_broke status xs ys a b c s t u p q =
       answered = all_append (IsAnswered a c) p.events q.events
           (events_wider a a b c p.events (shelf_same a) q.passes.on_shelf p.answered)
           (events_wider a b c c q.events p.passes.on_shelf (shelf_same c) q.answered);
-      wrote = subst (Appends s.taken u.taken) (sym (append_assoc (texts_of p.events) (texts_of q.events) q.part ) ∙ ap (λ l. l ++ q.part) (sym (texts_append p.events q.events)))
+      wrote = subst (Appends s.taken u.taken) (sym (append_assoc (texts_of p.events) (texts_of q.events) q.part) ∙ ap (λ l. l ++ q.part) (sym (texts_append p.events q.events)))
           (Appends-trans _ _ _ _ _ p.wrote q.wrote);
       stops = stops_wider status a b c s t u p.passes q.stops;
       at_status = q.at_status;

@@ -36,6 +36,7 @@ prepared_once file name desc numbers answer before now text fetched is = record 
     told_at : (files : Option (List File)) → IfSome files (λ files. answer ≡ answer_of files file) → IfSome files (λ files. answer ∷ [] ≡ map (answer_of files) (file ∷ []))
     told_at None told = tt
     told_at (Some files) told = ap (λ a. a ∷ []) told
+
     each_told : (before : ShelfSide) → IfSome before.files (λ files. answer ≡ answer_of files file) → IfSome before.files (λ files. answer ∷ [] ≡ map (answer_of files) (file ∷ []))
     each_told before told = told_at before.files told
 

@@ -8,14 +8,12 @@ ghost use Rattle.ms_memoise.specs.Replies.{is_word, method_reply, once_reply};
 ghost use Rattle.ms_memoise.specs.Feeding.{Hindered, Prepared};
 ghost use Rattle.ms_memoise.specs.Events.{shelf_side};
 
-use std::alloc::Global;
-
+use crate::call::call;
+use crate::status::Status;
 use ms_command::{Command, CommandRefusal, Numbers, Reply, read_command, write_reply};
 use ms_outside::{Fetch, Shelf};
 use ms_words::{Name, NoMemory};
-
-use crate::call::call;
-use crate::status::Status;
+use std::alloc::Global;
 
 /// What is written for a line: the text of its reply, or nothing for a line without a token. It fails
 /// where the shelf does, and for want of memory.
@@ -28,12 +26,14 @@ pub fn answer<F: Shelf>(alloc: Global, line: &[u8], shelf: &mut F) -> Result<Vec
         Err(CommandRefusal::Command) => text(alloc, &Reply::NoCommand),
         Err(CommandRefusal::NoMemory) => Err(Status::NoMemory),
         Ok(Command::Nothing) => Ok(Vec::new(alloc)),
-        Ok(Command::Once {
-            file,
-            name,
-            desc,
-            words,
-        }) => once(alloc, &file, &name, &desc, &words, shelf),
+        Ok(
+            Command::Once {
+                file,
+                name,
+                desc,
+                words,
+            },
+        ) => once(alloc, &file, &name, &desc, &words, shelf),
     }
 }
 

@@ -3,12 +3,11 @@ ghost use Rattle.std.specs.List.{list_all};
 ghost use Rattle.ms_classfile.specs.Reading.{thin_method};
 ghost use Rattle.ms_memoise.specs.Replies.{is_word, method_reply};
 
-use std::alloc::Global;
-
 use ms_classfile::read_thin;
 use ms_command::{Reply, returned};
 use ms_jvm::run;
 use ms_words::NoMemory;
+use std::alloc::Global;
 
 /// The reply where a file has these bytes: how the run of its method on these numbers ends, or that it
 /// isn't built.
@@ -36,7 +35,12 @@ pub fn call(
     let Some(words) = words_of(alloc, numbers)? else {
         return Ok(Reply::NotBuilt);
     };
-    let word = run(alloc, method.max_stack, method.instructions.as_slice(), words.as_slice())?;
+    let word = run(
+        alloc,
+        method.max_stack,
+        method.instructions.as_slice(),
+        words.as_slice(),
+    )?;
     let end = returned(alloc, word)?;
     Ok(Reply::Ran { end })
 }

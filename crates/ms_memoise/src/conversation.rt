@@ -3,12 +3,10 @@ ghost use Rattle.ms_memoise.specs.Conversations.{Conversation, outside, sink_sid
 ghost use Rattle.ms_memoise.specs.Events.{shelf_side};
 ghost use Rattle.ms_memoise.specs.Turns.{AtLimit, Finishes, TurnBroke, Turned, last_lines};
 
-use std::alloc::Global;
-
-use ms_outside::{Shelf, Sink, Source};
-
 use crate::feed::{feed, respond};
 use crate::status::Status;
+use ms_outside::{Shelf, Sink, Source};
+use std::alloc::Global;
 
 /// How many bytes are read at once, at most.
 const MOST_AT_ONCE: usize = 4096;
@@ -52,11 +50,11 @@ fn turn<S: Source, F: Shelf, K: Sink>(
     requires { 0 < most }
     ensures { MatchResult result
         (λ count. Turned most line.old.items count line.new.items
-            (outside (S.left source.old) (S.faults source.old) (shelf_side (F.files shelf.old) (F.counts shelf.old)) (K.taken sink.old) (K.faults sink.old))
-            (outside (S.left source.new) (S.faults source.new) (shelf_side (F.files shelf.new) (F.counts shelf.new)) (K.taken sink.new) (K.faults sink.new)))
+        (outside (S.left source.old) (S.faults source.old) (shelf_side (F.files shelf.old) (F.counts shelf.old)) (K.taken sink.old) (K.faults sink.old))
+        (outside (S.left source.new) (S.faults source.new) (shelf_side (F.files shelf.new) (F.counts shelf.new)) (K.taken sink.new) (K.faults sink.new)))
         (λ status. TurnBroke status most line.old.items
-            (outside (S.left source.old) (S.faults source.old) (shelf_side (F.files shelf.old) (F.counts shelf.old)) (K.taken sink.old) (K.faults sink.old))
-            (outside (S.left source.new) (S.faults source.new) (shelf_side (F.files shelf.new) (F.counts shelf.new)) (K.taken sink.new) (K.faults sink.new))) }
+        (outside (S.left source.old) (S.faults source.old) (shelf_side (F.files shelf.old) (F.counts shelf.old)) (K.taken sink.old) (K.faults sink.old))
+        (outside (S.left source.new) (S.faults source.new) (shelf_side (F.files shelf.new) (F.counts shelf.new)) (K.taken sink.new) (K.faults sink.new))) }
 {
     let mut buffer = [0; MOST_AT_ONCE];
     let room = MOST_AT_ONCE.min(most as usize);

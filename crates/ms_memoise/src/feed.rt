@@ -4,13 +4,11 @@ ghost use Rattle.ms_memoise.specs.Feeding.{Broke, Did, ended_lines, fed_kept, ke
 ghost use Rattle.ms_memoise.specs.Conversations.{sink_side};
 ghost use Rattle.ms_memoise.specs.Events.{shelf_side};
 
-use std::alloc::Global;
-
-use ms_outside::{Shelf, Sink, write_all};
-use ms_words::NoMemory;
-
 use crate::answer::answer;
 use crate::status::Status;
+use ms_outside::{Shelf, Sink, write_all};
+use ms_words::NoMemory;
+use std::alloc::Global;
 
 /// The most bytes that are kept of a line: as many as a command may have, its carriage return, and one
 /// more, which tells that the line is too long.

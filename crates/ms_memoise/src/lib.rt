@@ -6,7 +6,9 @@ mod answer;
 mod call;
 mod conversation;
 mod feed;
+mod program;
 mod status;
 
 pub use conversation::converse;
+pub use program::{MOST_INPUT, memoise};
 pub use status::Status;

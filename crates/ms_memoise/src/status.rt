@@ -43,7 +43,8 @@ impl Status {
     pub fn text(&self) -> &'static str {
         match self {
             Status::Done => "",
-            Status::Usage => "usage: memoise  (it takes no words; command lines come on standard input)",
+            Status::Usage =>
+                "usage: memoise  (it takes no words; command lines come on standard input)",
             Status::ReadFault => "memoise: standard input could not be read",
             Status::WriteFault => "memoise: standard output could not be written",
             Status::NoMemory => "memoise: memory ran out",
