@@ -1,6 +1,6 @@
 -- What the readers of a thin file return, seen as the parts of a file, and that it is what the
 -- definitions of `Reading` give.
-use Rattle.std.specs.Prelude.{◌≡◌, ℕ, List, [], ◌∷◌, map, ◌==◌, if◌then◌else◌, Option, Some, None, Result, Ok, Err}
+use Rattle.std.specs.Prelude.{◌≡◌, ℕ, List, [], ◌∷◌, ◌==◌, if◌then◌else◌, Option, Some, None, Result, Ok, Err}
 use Rattle.std.specs.Option.{option_map}
 use Rattle.std.specs.Int.{w8, cast_signed}
 use Rattle.ms_pool.specs.Places.{Place}
