@@ -1,2 +1,5 @@
 pub mod Words
 pub mod Throwables
+pub mod Relations
+pub mod Padding
+pub mod Inputs

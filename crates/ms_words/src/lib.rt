@@ -5,11 +5,13 @@
 //! result to a word. A name is a list of bytes.
 #![tactic(auto)]
 
+mod kind;
 mod name;
 mod operator;
 mod thrown;
 
+pub use kind::{Kind, Kinds};
 pub use name::Name;
-pub use operator::{Bin, apply2};
+pub use operator::{Bin, Rel, apply2, holds};
 pub use std::alloc::AllocError as NoMemory;
 pub use thrown::{Thrown, thrown_named};

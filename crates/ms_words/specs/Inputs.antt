@@ -1,0 +1,56 @@
+-- Kinds, inputs and their order.
+use Rattle.std.specs.Prelude.{◌≡◌, ℕ, ◌+◌, ◌^◌, ◌<◌, ◌≤◌, ◌%◌, List, [], ◌∷◌, length, map, replicate, ℤ, pos, negsuc, Bool, true, false, cond, ◌&&◌, ◌==◌, nat_lt, nat_le, slice_set, slice_get, Option, Some, None}
+use Rattle.std.specs.Int.{w32, cast_unsigned}
+use Rattle.ms_words.specs.declared.kind.Kind.{Kind}
+use Rattle.ms_words.specs.declared.kind.Kind.TheVariants.{Z, B, C, S, I}
+
+-- how many bits a word of the kind has
+abbrev pub bits_of : Kind → ℕ
+bits_of Z = 1
+bits_of B = 8
+bits_of C = 16
+bits_of S = 16
+bits_of I = 32
+
+-- whether a word is one of the kind: 0 or 1; a signed byte; a number of 16 bits; a signed number of 16 bits; any
+abbrev pub is_of : Kind → ℤ → Bool
+is_of Z (pos n) = nat_lt n 2
+is_of Z (negsuc n) = false
+is_of B (pos n) = nat_lt n (2 ^ 7)
+is_of B (negsuc n) = nat_lt n (2 ^ 7)
+is_of C (pos n) = nat_lt n (2 ^ 16)
+is_of C (negsuc n) = false
+is_of S (pos n) = nat_lt n (2 ^ 15)
+is_of S (negsuc n) = nat_lt n (2 ^ 15)
+is_of I (pos n) = nat_lt n (2 ^ 31)
+is_of I (negsuc n) = nat_lt n (2 ^ 31)
+
+-- the number that the bits of a word of the kind are, unsigned
+abbrev pub unsigned_of : Kind → ℤ → ℕ
+unsigned_of kind word = cast_unsigned w32 word % 2 ^ bits_of kind
+
+-- the most parameters
+abbrev pub most_parameters : ℕ
+most_parameters = 8
+
+-- an input: the kinds of the parameters, and a word for each
+pub record Words : Type 0 where
+  pub kinds : List Kind
+  pub words : List ℤ
+
+-- each word is one of its kind, and there is one for each
+abbrev pub are_of : List Kind → List ℤ → Bool
+are_of [] [] = true
+are_of [] (word ∷ words) = false
+are_of (kind ∷ kinds) [] = false
+are_of (kind ∷ kinds) (word ∷ words) = is_of kind word && are_of kinds words
+
+-- Whether the first input comes before the second: the first parameter whose words differ decides, by
+-- the unsigned values of their bits.
+abbrev pub comes_before : List Kind → List ℤ → List ℤ → Bool
+comes_before [] xs ys = false
+comes_before (kind ∷ kinds) [] ys = false
+comes_before (kind ∷ kinds) (x ∷ xs) [] = false
+comes_before (kind ∷ kinds) (x ∷ xs) (y ∷ ys) =
+    cond (nat_lt (unsigned_of kind x) (unsigned_of kind y)) true
+    (cond (unsigned_of kind x == unsigned_of kind y) (comes_before kinds xs ys) false)
