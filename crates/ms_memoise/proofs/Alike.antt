@@ -122,6 +122,7 @@ did_alike xs ys a b s t alike p =
       answered = found.answered;
       wrote = subst (Appends s.taken t.taken) (sym found.texts) p.wrote;
       passes = p.passes;
+      calm = p.calm;
     }
 
 begun_alike : (xs ys : List (List ℕ)) (a b : ShelfSide) (n : ℕ) (part : List ℕ) → Alike xs ys → Begun a b xs n part → Begun a b ys n part

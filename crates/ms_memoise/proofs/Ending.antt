@@ -104,13 +104,16 @@ conversation_broke limit status bytes all o q took are_first p done cause reads 
     }
 
 pub conversation_stopped : (limit : ℕ) (status : Status) (bytes : List ℕ) (all : List (List ℕ)) (o q : Outside) → Consumes o.source.left q.source.left bytes → AreFirst o.source.left all
-    → length bytes ≤ limit → Broke status all o.shelf q.shelf o.sink q.sink → o.source.faults ≤ q.source.faults → Conversation limit o q status
+    → length bytes ≤ limit → Broke status all o.shelf q.shelf o.sink q.sink → q.source.faults ≡ o.source.faults → Conversation limit o q status
 conversation_stopped limit Done bytes all o q took are_first short p reads = absurd p.stops
 conversation_stopped limit Usage bytes all o q took are_first short p reads = absurd p.stops
 conversation_stopped limit ReadFault bytes all o q took are_first short p reads = absurd p.stops
-conversation_stopped limit WriteFault bytes all o q took are_first short p reads = conversation_broke limit WriteFault bytes all o q took are_first p short p.stops reads
-conversation_stopped limit NoMemory bytes all o q took are_first short p reads = conversation_broke limit NoMemory bytes all o q took are_first p short tt reads
-conversation_stopped limit ShelfFault bytes all o q took are_first short p reads = conversation_broke limit ShelfFault bytes all o q took are_first p (short, p.at_status) p.stops reads
+conversation_stopped limit WriteFault bytes all o q took are_first short p reads =
+    conversation_broke limit WriteFault bytes all o q took are_first p short (p.stops.0, reads, p.stops.1) (omega arith)
+conversation_stopped limit NoMemory bytes all o q took are_first short p reads =
+    conversation_broke limit NoMemory bytes all o q took are_first p short (reads, p.stops.0, p.stops.1) (omega arith)
+conversation_stopped limit ShelfFault bytes all o q took are_first short p reads =
+    conversation_broke limit ShelfFault bytes all o q took are_first p (short, p.at_status) (p.stops.0, reads, p.stops.1) (omega arith)
 conversation_stopped limit TooMuchInput bytes all o q took are_first short p reads = absurd p.stops
 
 -- THE ENDS OF A CONVERSATION
@@ -127,26 +130,26 @@ read_failed limit left kept bytes o p q s took none rose reads did =
     let done = did_alike _ _ o.shelf q.shelf o.sink q.sink (alike_whole s.bytes)
     (subst (λ all. Did all o.shelf q.shelf o.sink q.sink) (append-nil (ended_lines [] s.bytes)) (did_both _ _ _ _ _ _ _ _ s.did did)) in
     conversation_did limit ReadFault s.bytes (whole_lines s.bytes) o q took_all (first_whole _ _ _ took_all) done
-    (omega (arith, s.many), refl, refl) (rose_wider o.source.faults p.source.faults q.source.faults q.source.faults s.reads (omega arith) rose) (omega (arith, s.reads, reads))
+    (omega (arith, s.many), refl, refl) (rose_wider o.source.faults p.source.faults q.source.faults q.source.faults (omega (arith, s.reads)) (omega arith) rose, done.calm.0, done.calm.1) (omega (arith, s.reads, reads))
 
 -- a line of the bytes of a turn broke off
 line_broke : (limit left : ℕ) (status : Status) (kept bytes : List ℕ) (o p q : Outside) → Stands limit left kept o p → Consumes p.source.left q.source.left bytes → length bytes ≤ left
-    → p.source.faults ≤ q.source.faults → Broke status (ended_lines kept bytes) p.shelf q.shelf p.sink q.sink → Conversation limit o q status
+    → q.source.faults ≡ p.source.faults → Broke status (ended_lines kept bytes) p.shelf q.shelf p.sink q.sink → Conversation limit o q status
 line_broke limit left status kept bytes o p q s took short reads broke =
     let took_all = Consumes-trans _ _ _ _ _ s.took took in
     let whole = s.bytes ++ bytes in
     let stopped = broke_alike status _ _ o.shelf q.shelf o.sink q.sink (alike_whole whole)
     (subst (λ all. Broke status all o.shelf q.shelf o.sink q.sink) (joined kept s.bytes bytes s.keeps) (did_broke status _ _ _ _ _ _ _ _ s.did broke)) in
-    conversation_stopped limit status whole (whole_lines whole) o q took_all (first_whole _ _ _ took_all) (omega (arith, s.many, length-append s.bytes bytes)) stopped (omega (arith, s.reads, reads))
+    conversation_stopped limit status whole (whole_lines whole) o q took_all (first_whole _ _ _ took_all) (omega (arith, s.many, length-append s.bytes bytes)) stopped (reads ∙ s.reads)
 
 pub turn_broke : (limit left : ℕ) (status : Status) (kept : List ℕ) (o p q : Outside) → Stands limit left kept o p → TurnBroke status left kept p q → Conversation limit o q status
-turn_broke limit left Done kept o p q s t = line_broke limit left Done kept t.bytes o p q s t.took t.within t.reads t.stops
-turn_broke limit left Usage kept o p q s t = line_broke limit left Usage kept t.bytes o p q s t.took t.within t.reads t.stops
+turn_broke limit left Done kept o p q s t = line_broke limit left Done kept t.bytes o p q s t.took t.within t.stops.0 t.stops.1
+turn_broke limit left Usage kept o p q s t = line_broke limit left Usage kept t.bytes o p q s t.took t.within t.stops.0 t.stops.1
 turn_broke limit left ReadFault kept o p q s t = read_failed limit left kept t.bytes o p q s t.took t.stops.0 t.stops.1 t.reads t.stops.2
-turn_broke limit left WriteFault kept o p q s t = line_broke limit left WriteFault kept t.bytes o p q s t.took t.within t.reads t.stops
-turn_broke limit left NoMemory kept o p q s t = line_broke limit left NoMemory kept t.bytes o p q s t.took t.within t.reads t.stops
-turn_broke limit left ShelfFault kept o p q s t = line_broke limit left ShelfFault kept t.bytes o p q s t.took t.within t.reads t.stops
-turn_broke limit left TooMuchInput kept o p q s t = line_broke limit left TooMuchInput kept t.bytes o p q s t.took t.within t.reads t.stops
+turn_broke limit left WriteFault kept o p q s t = line_broke limit left WriteFault kept t.bytes o p q s t.took t.within t.stops.0 t.stops.1
+turn_broke limit left NoMemory kept o p q s t = line_broke limit left NoMemory kept t.bytes o p q s t.took t.within t.stops.0 t.stops.1
+turn_broke limit left ShelfFault kept o p q s t = line_broke limit left ShelfFault kept t.bytes o p q s t.took t.within t.stops.0 t.stops.1
+turn_broke limit left TooMuchInput kept o p q s t = line_broke limit left TooMuchInput kept t.bytes o p q s t.took t.within t.stops.0 t.stops.1
 
 -- the source is at its end, and the last line broke off
 last_broke : (limit left : ℕ) (status : Status) (kept : List ℕ) (o p q : Outside) → Stands limit left kept o p → q.source ≡ p.source → IsAtEnd p.source.left
@@ -156,7 +159,7 @@ last_broke limit left status kept o p q s same end broke =
     let ended : IsAtEnd q.source.left = subst (λ (side : SourceSide). IsAtEnd side.left) (sym same) end in
     let stopped = broke_alike status _ _ o.shelf q.shelf o.sink q.sink (alike_all kept s.bytes s.keeps) (did_broke status _ _ _ _ _ _ _ _ s.did broke) in
     conversation_stopped limit status s.bytes (lines s.bytes) o q took (first_all _ _ _ took ended) (omega (arith, s.many)) stopped
-    (subst (λ (side : SourceSide). o.source.faults ≤ side.faults) (sym same) s.reads)
+    (ap (λ (side : SourceSide). side.faults) same ∙ s.reads)
 
 -- the source is at its end, and the last line was done
 last_done : (limit left : ℕ) (kept : List ℕ) (o p q : Outside) → Stands limit left kept o p → q.source ≡ p.source → IsAtEnd p.source.left
@@ -165,8 +168,9 @@ last_done limit left kept o p q s same end did =
     let took : Consumes o.source.left q.source.left s.bytes = subst (λ (side : SourceSide). Consumes o.source.left side.left s.bytes) (sym same) s.took in
     let ended : IsAtEnd q.source.left = subst (λ (side : SourceSide). IsAtEnd side.left) (sym same) end in
     let done = did_alike _ _ o.shelf q.shelf o.sink q.sink (alike_all kept s.bytes s.keeps) (did_both _ _ _ _ _ _ _ _ s.did did) in
-    conversation_did limit Done s.bytes (lines s.bytes) o q took (first_all _ _ _ took ended) done (omega (arith, s.many), refl, refl) ended
-    (subst (λ (side : SourceSide). o.source.faults ≤ side.faults) (sym same) s.reads)
+    let reads : q.source.faults ≡ o.source.faults = ap (λ (side : SourceSide). side.faults) same ∙ s.reads in
+    conversation_did limit Done s.bytes (lines s.bytes) o q took (first_all _ _ _ took ended) done (omega (arith, s.many), refl, refl) ((reads, done.calm.0, done.calm.1), ended)
+    (omega (arith, reads))
 
 pub finished : (limit left : ℕ) (status : Status) (kept : List ℕ) (o p q : Outside) → Stands limit left kept o p → q.source ≡ p.source → IsAtEnd p.source.left
     → Finishes status (last_lines kept) p.shelf q.shelf p.sink q.sink → Conversation limit o q status
@@ -179,7 +183,7 @@ finished limit left ShelfFault kept o p q s same end f = last_broke limit left S
 finished limit left TooMuchInput kept o p q s same end f = last_broke limit left TooMuchInput kept o p q s same end f
 
 -- the source alone moved, and gave nothing
-stands_moved : (limit left : ℕ) (kept bytes : List ℕ) (o p : Outside) (side : SourceSide) → Stands limit left kept o p → Consumes p.source.left side.left bytes → bytes ≡ [] → p.source.faults ≤ side.faults
+stands_moved : (limit left : ℕ) (kept bytes : List ℕ) (o p : Outside) (side : SourceSide) → Stands limit left kept o p → Consumes p.source.left side.left bytes → bytes ≡ [] → side.faults ≡ p.source.faults
     → Stands limit left kept o (record { source = side; shelf = p.shelf; sink = p.sink })
 stands_moved limit left kept bytes o p side s took none reads = record {
   bytes = s.bytes;
@@ -187,13 +191,13 @@ stands_moved limit left kept bytes o p side s took none reads = record {
   many = s.many;
   keeps = s.keeps;
   did = s.did;
-  reads = omega (arith, s.reads, reads);
+  reads = reads ∙ s.reads;
 }
 
-limit_finished : (limit : ℕ) (status : Status) (kept bytes : List ℕ) (o p q : Outside) → Stands limit 0 kept o p → Consumes p.source.left q.source.left bytes → p.source.faults ≤ q.source.faults
-    → (bytes ≡ []) × IsAtEnd q.source.left × Finishes status (last_lines kept) p.shelf q.shelf p.sink q.sink → Conversation limit o q status
-limit_finished limit status kept bytes o p q s took reads c =
-    finished limit 0 status kept o (record { source = q.source; shelf = p.shelf; sink = p.sink }) q (stands_moved limit 0 kept bytes o p q.source s took c.0 reads) refl c.1 c.2
+limit_finished : (limit : ℕ) (status : Status) (kept bytes : List ℕ) (o p q : Outside) → Stands limit 0 kept o p → Consumes p.source.left q.source.left bytes
+    → (bytes ≡ []) × (q.source.faults ≡ p.source.faults) × IsAtEnd q.source.left × Finishes status (last_lines kept) p.shelf q.shelf p.sink q.sink → Conversation limit o q status
+limit_finished limit status kept bytes o p q s took c =
+    finished limit 0 status kept o (record { source = q.source; shelf = p.shelf; sink = p.sink }) q (stands_moved limit 0 kept bytes o p q.source s took c.0 c.1) refl c.2 c.3
 
 longer : (before now : Option (List ℕ)) (bytes : List ℕ) (n : ℕ) → Consumes before now bytes → n < length bytes → IfSome before (λ input. n < length input)
 longer None now bytes n took long = tt
@@ -201,7 +205,7 @@ longer (Some input) None bytes n took long = absurd took
 longer (Some input) (Some rest) bytes n took long = omega (arith, ap length took, length-append bytes rest)
 
 -- one byte more came than may be taken
-too_much : (limit : ℕ) (kept bytes : List ℕ) (o p q : Outside) → Stands limit 0 kept o p → Consumes p.source.left q.source.left bytes → length bytes ≡ 1 → p.source.faults ≤ q.source.faults
+too_much : (limit : ℕ) (kept bytes : List ℕ) (o p q : Outside) → Stands limit 0 kept o p → Consumes p.source.left q.source.left bytes → length bytes ≡ 1 → q.source.faults ≡ p.source.faults
     → Did [] p.shelf q.shelf p.sink q.sink → Conversation limit o q TooMuchInput
 too_much limit kept bytes o p q s took one reads did =
     let took_all = Consumes-trans _ _ _ _ _ s.took took in
@@ -211,24 +215,24 @@ too_much limit kept bytes o p q s took one reads did =
     let done = did_alike _ _ o.shelf q.shelf o.sink q.sink (alike_whole s.bytes)
     (subst (λ all. Did all o.shelf q.shelf o.sink q.sink) (append-nil (ended_lines [] s.bytes)) (did_both _ _ _ _ _ _ _ _ s.did did)) in
     conversation_did limit TooMuchInput whole (whole_lines s.bytes) o q took_all (first_whole _ _ _ s.took) done
-    (many, ap whole_lines (sym front), refl) (longer _ _ _ limit took_all (omega arith)) (omega (arith, s.reads, reads))
+    (many, ap whole_lines (sym front), refl) ((reads ∙ s.reads, done.calm.0, done.calm.1), longer _ _ _ limit took_all (omega arith)) (omega (arith, s.reads, reads))
 
 pub limit_reached : (limit : ℕ) (status : Status) (kept : List ℕ) (o p q : Outside) → Stands limit 0 kept o p → AtLimit status kept p q → Conversation limit o q status
-limit_reached limit Done kept o p q s a = limit_finished limit Done kept a.bytes o p q s a.took a.reads a.comes
-limit_reached limit Usage kept o p q s a = limit_finished limit Usage kept a.bytes o p q s a.took a.reads a.comes
+limit_reached limit Done kept o p q s a = limit_finished limit Done kept a.bytes o p q s a.took a.comes
+limit_reached limit Usage kept o p q s a = limit_finished limit Usage kept a.bytes o p q s a.took a.comes
 limit_reached limit ReadFault kept o p q s a = read_failed limit 0 kept a.bytes o p q s a.took a.comes.0 a.comes.1 a.reads a.comes.2
-limit_reached limit WriteFault kept o p q s a = limit_finished limit WriteFault kept a.bytes o p q s a.took a.reads a.comes
-limit_reached limit NoMemory kept o p q s a = limit_finished limit NoMemory kept a.bytes o p q s a.took a.reads a.comes
-limit_reached limit ShelfFault kept o p q s a = limit_finished limit ShelfFault kept a.bytes o p q s a.took a.reads a.comes
-limit_reached limit TooMuchInput kept o p q s a = too_much limit kept a.bytes o p q s a.took a.comes.0 a.reads a.comes.1
+limit_reached limit WriteFault kept o p q s a = limit_finished limit WriteFault kept a.bytes o p q s a.took a.comes
+limit_reached limit NoMemory kept o p q s a = limit_finished limit NoMemory kept a.bytes o p q s a.took a.comes
+limit_reached limit ShelfFault kept o p q s a = limit_finished limit ShelfFault kept a.bytes o p q s a.took a.comes
+limit_reached limit TooMuchInput kept o p q s a = too_much limit kept a.bytes o p q s a.took a.comes.0 a.comes.1 a.comes.2
 
 -- no conversation ends with `Usage`
 
 pub turn_not_usage : (status : Status) (most : ℕ) (kept : List ℕ) (p q : Outside) → TurnBroke status most kept p q → status ≡ Usage → ⊥
-turn_not_usage status most kept p q t is = let u : TurnBroke Usage most kept p q = subst (λ s. TurnBroke s most kept p q) is t in u.stops.stops
+turn_not_usage status most kept p q t is = let u : TurnBroke Usage most kept p q = subst (λ s. TurnBroke s most kept p q) is t in u.stops.1.stops
 
 pub finish_not_usage : (status : Status) (all : List (List ℕ)) (a b : ShelfSide) (s t : SinkSide) → Finishes status all a b s t → status ≡ Usage → ⊥
 finish_not_usage status all a b s t f is = let u : Broke Usage all a b s t = subst (λ status. Finishes status all a b s t) is f in u.stops
 
 pub limit_not_usage : (status : Status) (kept : List ℕ) (p q : Outside) → AtLimit status kept p q → status ≡ Usage → ⊥
-limit_not_usage status kept p q a is = let u : AtLimit Usage kept p q = subst (λ s. AtLimit s kept p q) is a in u.comes.2.stops
+limit_not_usage status kept p q a is = let u : AtLimit Usage kept p q = subst (λ s. AtLimit s kept p q) is a in u.comes.3.stops

@@ -12,7 +12,7 @@ use Rattle.ms_outside.specs.Sinks.{TakesPart}
 use Rattle.ms_command.specs.Commands.{command_of}
 use Rattle.ms_memoise.specs.Events.{Event, IsAnswered, ShelfSide, lines_of, text_of, texts_of}
 use Rattle.ms_memoise.specs.Conversations.{SinkSide}
-use Rattle.ms_memoise.specs.Feeding.{Broke, Did, Hindered, Hinders, IsPartAt, Passes, Prepared, Stops}
+use Rattle.ms_memoise.specs.Feeding.{Broke, Calm, Did, Hindered, Hinders, IsPartAt, Passes, Prepared, Stops}
 use Rattle.ms_memoise.proofs.Spans.{answers_wider, events_wider, passes_later, rose_wider, shelf_same}
 
 pub did_nothing : (a : ShelfSide) (s : SinkSide) → Did [] a a s s
@@ -22,6 +22,7 @@ did_nothing a s = record {
   answered = tt;
   wrote = Appends-nil s.taken;
   passes = record { on_shelf = shelf_same a; writes = omega arith };
+  calm = (refl, refl);
 }
 
 all_append : (P : Event → Type 0) (xs ys : List Event) → AllByRecursion P xs → AllByRecursion P ys → AllByRecursion P (xs ++ ys)
@@ -45,6 +46,7 @@ did_both xs ys a b c s t u p q = record {
       (events_wider a b c c q.events p.passes.on_shelf (shelf_same c) q.answered);
   wrote = subst (Appends s.taken u.taken) (sym (texts_append p.events q.events)) (Appends-trans _ _ _ _ _ p.wrote q.wrote);
   passes = passes_later a b c s t u p.passes q.passes;
+  calm = (q.calm.0 ∙ p.calm.0, q.calm.1 ∙ p.calm.1);
 }
 
 pub broke_here : (status : Status) (all : List (List ℕ)) (a : ShelfSide) (s : SinkSide) → Stops status a a s s → IsPartAt status [] → Broke status all a a s s
@@ -65,8 +67,8 @@ hinders_stops Done a b s h = absurd h
 hinders_stops Usage a b s h = absurd h
 hinders_stops ReadFault a b s h = absurd h
 hinders_stops WriteFault a b s h = absurd h
-hinders_stops NoMemory a b s h = (tt, tt)
-hinders_stops ShelfFault a b s h = (h, refl)
+hinders_stops NoMemory a b s h = ((h, refl), tt)
+hinders_stops ShelfFault a b s h = ((h, refl), refl)
 hinders_stops TooMuchInput a b s h = absurd h
 
 pub broke_hindered : (status : Status) (all : List (List ℕ)) (a b : ShelfSide) (s : SinkSide) → Hindered status a b → Broke status all a b s s
@@ -82,13 +84,14 @@ broke_hindered status all a b s h = record {
   passes = record { on_shelf = h.passes; writes = omega arith };
 }
 
-pub did_one : (line text piece : List ℕ) (a b : ShelfSide) (s t : SinkSide) → Prepared (command_of line) a b text → piece ≡ text → Appends s.taken t.taken piece → s.faults ≤ t.faults → Did (line ∷ []) a b s t
-did_one line text piece a b s t p is wrote grows = record {
+pub did_one : (line text piece : List ℕ) (a b : ShelfSide) (s t : SinkSide) → Prepared (command_of line) a b text → piece ≡ text → Appends s.taken t.taken piece → t.faults ≡ s.faults → Did (line ∷ []) a b s t
+did_one line text piece a b s t p is wrote steady = record {
   events = record { line = line; answers = p.answers } ∷ [];
   lines = refl;
   answered = (p.given, tt);
   wrote = subst (Appends s.taken t.taken) (is ∙ p.is ∙ sym (append-nil _)) wrote;
-  passes = record { on_shelf = p.passes; writes = grows };
+  passes = record { on_shelf = p.passes; writes = omega arith };
+  calm = (p.calm, steady);
 }
 
 take_of_take : (n : ℕ) (xs : List ℕ) → take (length (take n xs)) xs ≡ take n xs
@@ -108,7 +111,7 @@ broke_writing line text piece a b s t p is wrote grows rose =
       begun = λ h. record { event = event; line = refl; answered = p.given; begins = take_of_take wrote.0 (text_of event) };
       answered = tt;
       wrote = subst (λ l. Appends s.taken t.taken (take wrote.0 l)) whole wrote.1;
-      stops = rose;
+      stops = (rose, p.calm);
       at_status = tt;
       passes = record { on_shelf = p.passes; writes = grows };
     }
@@ -130,14 +133,15 @@ get_behind (x ∷ xs) ys n = rw suc-add (get_behind xs ys n)
 pub no_more : (events : List Event) (xs : List (List ℕ)) → lines_of events ≡ take (length events) xs → length events ≤ length xs
 no_more events xs lines = omega (arith, length_lines events, ap length lines, length-take (length events) xs)
 
-stops_wider : (status : Status) (a b c : ShelfSide) (s t u : SinkSide) → Passes a b s t → Stops status b c t u → Stops status a c s u
-stops_wider Done a b c s t u p h = h
-stops_wider Usage a b c s t u p h = h
-stops_wider ReadFault a b c s t u p h = h
-stops_wider WriteFault a b c s t u p h = rose_wider s.faults t.faults u.faults u.faults p.writes (omega arith) h
-stops_wider NoMemory a b c s t u p h = h
-stops_wider ShelfFault a b c s t u p h = rose_wider a.counts.faults b.counts.faults c.counts.faults c.counts.faults p.on_shelf.fetches.faults (omega arith) h
-stops_wider TooMuchInput a b c s t u p h = h
+stops_wider : (status : Status) (a b c : ShelfSide) (s t u : SinkSide) → Passes a b s t → Calm a b s t → Stops status b c t u → Stops status a c s u
+stops_wider Done a b c s t u p calm h = h
+stops_wider Usage a b c s t u p calm h = h
+stops_wider ReadFault a b c s t u p calm h = h
+stops_wider WriteFault a b c s t u p calm h = (rose_wider s.faults t.faults u.faults u.faults p.writes (omega arith) h.0, h.1 ∙ calm.0)
+stops_wider NoMemory a b c s t u p calm h = (h.0 ∙ calm.0, h.1 ∙ calm.1)
+stops_wider ShelfFault a b c s t u p calm h =
+    (rose_wider a.counts.faults b.counts.faults c.counts.faults c.counts.faults p.on_shelf.fetches.faults (omega arith) h.0, h.1 ∙ calm.1)
+stops_wider TooMuchInput a b c s t u p calm h = h
 
 -- whatever lines follow
 pub broke_before : (status : Status) (xs ys : List (List ℕ)) (a b : ShelfSide) (s t : SinkSide) → Broke status xs a b s t → Broke status (xs ++ ys) a b s t
@@ -173,7 +177,7 @@ did_broke status xs ys a b c s t u p q =
           (events_wider a b c c q.events p.passes.on_shelf (shelf_same c) q.answered);
       wrote = subst (Appends s.taken u.taken) (sym (append_assoc (texts_of p.events) (texts_of q.events) q.part) ∙ ap (λ l. l ++ q.part) (sym (texts_append p.events q.events)))
           (Appends-trans _ _ _ _ _ p.wrote q.wrote);
-      stops = stops_wider status a b c s t u p.passes q.stops;
+      stops = stops_wider status a b c s t u p.passes p.calm q.stops;
       at_status = q.at_status;
       passes = passes_later a b c s t u p.passes q.passes;
     }

@@ -16,6 +16,7 @@ pub record Fetched (before now : ShelfSide) (name : List ℕ) (answer : Answer) 
   pub cause : HasCauseFor before now answer
   pub told : IfSome before.files (λ files. answer ≡ answer_of files name)
   pub passes : ShelfPasses before now
+  pub calm : now.counts.faults ≡ before.counts.faults
 
 pub prepared_once : (file name desc : List ℕ) (numbers : List ℤ) (answer : Answer) (before now : ShelfSide) (text : List ℕ) → Fetched before now file answer
     → text ≡ reply_text (once_reply file name desc numbers answer) → Prepared (Some (Once file name desc numbers)) before now text
@@ -29,6 +30,7 @@ prepared_once file name desc numbers answer before now text fetched is = record 
   };
   is = is;
   passes = fetched.passes;
+  calm = fetched.calm;
 }
   where
     told_at : (files : Option (List File)) → IfSome files (λ files. answer ≡ answer_of files file) → IfSome files (λ files. answer ∷ [] ≡ map (answer_of files) (file ∷ []))
@@ -38,15 +40,16 @@ prepared_once file name desc numbers answer before now text fetched is = record 
     each_told : (before : ShelfSide) → IfSome before.files (λ files. answer ≡ answer_of files file) → IfSome before.files (λ files. answer ∷ [] ≡ map (answer_of files) (file ∷ []))
     each_told before told = told_at before.files told
 
-pub hindered_memory : (status : Status) (before now : ShelfSide) → ShelfPasses before now → status ≡ NoMemory → Hindered status before now
-hindered_memory status before now passes is = subst (λ s. Hindered s before now) (sym is) (record { why = tt; passes = passes })
+pub hindered_memory : (status : Status) (before now : ShelfSide) → ShelfPasses before now → now.counts.faults ≡ before.counts.faults → status ≡ NoMemory → Hindered status before now
+hindered_memory status before now passes calm is = subst (λ s. Hindered s before now) (sym is) (record { why = calm; passes = passes })
 
 -- what a fetch of a file says of the answer that it brought
 pub fetched : (before now : ShelfSide) (name file : List ℕ) → name ≡ file → (answer : Answer) → IfSome before.files (λ files. answer ≡ answer_of files name) → IsWithinLimit answer → HasCauseFor before now answer
-    → now.files ≡ before.files → CountsGrow before.counts now.counts → Fetched before now file answer
-fetched before now name file same answer told size cause files grow = record {
+    → now.files ≡ before.files → CountsGrow before.counts now.counts → now.counts.faults ≡ before.counts.faults → Fetched before now file answer
+fetched before now name file same answer told size cause files grow calm = record {
   size = size;
   cause = cause;
   told = subst (λ n. IfSome before.files (λ files. answer ≡ answer_of files n)) same told;
   passes = record { files = files; fetches = grow };
+  calm = calm;
 }

@@ -1,5 +1,5 @@
 -- A conversation up to the end of a turn.
-use Rattle.std.proofs.Common.{◌≡◌, ℕ, ◌+◌, ◌-◌, ◌≤◌, List, [], ◌++◌, length, sym, ap, ◌∙◌, subst, arith, length-append}
+use Rattle.std.proofs.Common.{◌≡◌, ℕ, ◌+◌, ◌-◌, ◌≤◌, List, [], ◌++◌, length, sym, ap, ◌∙◌, subst, arith, length-append, refl}
 use Rattle.std.specs.Io.KnownBytes.{Consumes}
 use Rattle.std.proofs.KnownBytes.{Consumes-nil, Consumes-trans}
 use Rattle.ms_memoise.specs.Conversations.{Outside}
@@ -15,7 +15,7 @@ pub record Stands (limit left : ℕ) (kept : List ℕ) (before now : Outside) : 
   pub many : length bytes + left ≡ limit
   pub keeps : kept ≡ fed_kept [] bytes
   pub did : Did (ended_lines [] bytes) before.shelf now.shelf before.sink now.sink
-  pub reads : before.source.faults ≤ now.source.faults
+  pub reads : now.source.faults ≡ before.source.faults
 
 pub stands_first : (limit : ℕ) (kept : List ℕ) (o : Outside) → kept ≡ [] → Stands limit limit kept o o
 stands_first limit kept o none = record {
@@ -24,7 +24,7 @@ stands_first limit kept o none = record {
   many = omega arith;
   keeps = none;
   did = did_nothing o.shelf o.sink;
-  reads = omega arith;
+  reads = refl;
 }
 
 pub stands_after : (limit left count : ℕ) (kept kept_now : List ℕ) (o p q : Outside) → Stands limit left kept o p → Turned left kept count kept_now p q → Stands limit (left - count) kept_now o q
@@ -37,5 +37,5 @@ stands_after limit left count kept kept_now o p q s t =
       many = omega (arith, s.many, t.many, t.within, length-append s.bytes t.bytes);
       keeps = t.keeps ∙ ap (λ k. fed_kept k t.bytes) s.keeps ∙ sym (fed_kept_append [] s.bytes t.bytes);
       did = subst (λ all. Did all o.shelf q.shelf o.sink q.sink) joined (did_both _ _ _ _ _ _ _ _ s.did t.did);
-      reads = omega (arith, s.reads, t.reads);
+      reads = t.reads ∙ s.reads;
     }

@@ -8,7 +8,7 @@ use Rattle.ms_outside.specs.Shelves.{File, answer_of}
 use Rattle.ms_memoise.specs.declared.status.Status.{Status}
 use Rattle.ms_memoise.specs.declared.status.Status.TheVariants.{Done, Usage, ReadFault, WriteFault, NoMemory, ShelfFault, TooMuchInput}
 use Rattle.ms_memoise.specs.Events.{Event, IsAnswered, ShelfSide, asked, event_of, lines_of, replies, texts_of}
-use Rattle.ms_memoise.specs.Conversations.{Conversation, Outside, EndsWell}
+use Rattle.ms_memoise.specs.Conversations.{Conversation, Outside, IsDoneUnlessRisen, IsTooMuchUnlessRisen}
 use Rattle.ms_memoise.proofs.Spans.{counts_same}
 
 if_some_each : (o : Option (List ℕ)) (Q : List ℕ → Type 0) → ((x : List ℕ) → Q x) → IfSome o Q
@@ -27,7 +27,7 @@ conversation_of_usage limit o = record {
   first = if_some_each o.source.left _ (λ input. refl);
   begun = if_some_each o.source.left _ (λ input h. absurd (omega arith));
   done = (refl, refl, refl);
-  cause = tt;
+  cause = (refl, refl, refl);
   elapses = record { reads = omega arith; writes = omega arith; fetches = counts_same o.shelf.counts; files = refl };
 }
 
@@ -63,7 +63,7 @@ replied_at (Some input) (Some rest) (Some files) bytes events taken taken_now to
 -- where the source and the shelf tell what they hold, the sink took the replies
 pub replied : (limit : ℕ) (o q : Outside) → Conversation limit o q Done → IfSome o.source.left (λ input. IfSome o.shelf.files (λ files. Appends o.sink.taken q.sink.taken (replies files input)))
 replied limit o q c =
-    replied_at o.source.left q.source.left o.shelf.files c.bytes c.events o.sink.taken q.sink.taken c.took c.cause c.done.1 (all_told _ o.shelf q.shelf c.events refl c.answered)
+    replied_at o.source.left q.source.left o.shelf.files c.bytes c.events o.sink.taken q.sink.taken c.took c.cause.1 c.done.1 (all_told _ o.shelf q.shelf c.events refl c.answered)
     (subst (Appends o.sink.taken q.sink.taken) (ap (λ l. texts_of c.events ++ l) c.done.2 ∙ append-nil (texts_of c.events)) c.wrote)
 
 -- THE LENGTH OF THE INPUT
@@ -74,18 +74,32 @@ short_at limit (Some input) None bytes took end short = absurd took
 short_at limit (Some input) (Some rest) bytes took end short = subst (λ l. length l ≤ limit) (sym (took ∙ ap (λ l. bytes ++ l) end ∙ append-nil bytes)) short
 
 pub short_input : (limit : ℕ) (o q : Outside) → Conversation limit o q Done → IfSome o.source.left (λ input. length input ≤ limit)
-short_input limit o q c = short_at limit o.source.left q.source.left c.bytes c.took c.cause c.done.0
+short_input limit o q c = short_at limit o.source.left q.source.left c.bytes c.took c.cause.1 c.done.0
 
 too_long : (limit : ℕ) (left : Option (List ℕ)) → IsSomeAnd left (λ input. length input ≤ limit) → IfSome left (λ input. limit < length input) → ⊥
 too_long limit None short long = short
 too_long limit (Some input) short long = omega arith
 
 -- a run ends well, or a count rose
-pub ends_well : (limit : ℕ) (status : Status) (o q : Outside) → Conversation limit o q status → (status ≡ Usage → ⊥) → IsSomeAnd o.source.left (λ input. length input ≤ limit) → EndsWell status o q
+pub ends_well : (limit : ℕ) (status : Status) (o q : Outside) → Conversation limit o q status → (status ≡ Usage → ⊥) → IsSomeAnd o.source.left (λ input. length input ≤ limit) → IsDoneUnlessRisen status o q
 ends_well limit Done o q c words short = inl refl
 ends_well limit Usage o q c words short = absurd (words refl)
-ends_well limit ReadFault o q c words short = inr (inr (inl c.cause))
-ends_well limit WriteFault o q c words short = inr (inr (inr (inl c.cause)))
+ends_well limit ReadFault o q c words short = inr (inr (inl c.cause.0))
+ends_well limit WriteFault o q c words short = inr (inr (inr (inl c.cause.0)))
 ends_well limit NoMemory o q c words short = inr (inl refl)
-ends_well limit ShelfFault o q c words short = inr (inr (inr (inr c.cause)))
-ends_well limit TooMuchInput o q c words short = absurd (too_long limit o.source.left short c.cause)
+ends_well limit ShelfFault o q c words short = inr (inr (inr (inr c.cause.0)))
+ends_well limit TooMuchInput o q c words short = absurd (too_long limit o.source.left short c.cause.1)
+
+-- more bytes come than may be taken, or a count rose
+not_short : (limit : ℕ) (left : Option (List ℕ)) → IsSomeAnd left (λ input. limit < length input) → IfSome left (λ input. length input ≤ limit) → ⊥
+not_short limit None long short = long
+not_short limit (Some input) long short = omega arith
+
+pub ends_beyond : (limit : ℕ) (status : Status) (o q : Outside) → Conversation limit o q status → (status ≡ Usage → ⊥) → IsSomeAnd o.source.left (λ input. limit < length input) → IsTooMuchUnlessRisen status o q
+ends_beyond limit Done o q c words long = absurd (not_short limit o.source.left long (short_input limit o q c))
+ends_beyond limit Usage o q c words long = absurd (words refl)
+ends_beyond limit ReadFault o q c words long = inr (inr (inl c.cause.0))
+ends_beyond limit WriteFault o q c words long = inr (inr (inr (inl c.cause.0)))
+ends_beyond limit NoMemory o q c words long = inr (inl refl)
+ends_beyond limit ShelfFault o q c words long = inr (inr (inr (inr c.cause.0)))
+ends_beyond limit TooMuchInput o q c words long = inl refl

@@ -39,15 +39,30 @@ pub record Elapses (before now : Outside) : Type 0 where
   pub fetches : CountsGrow before.shelf.counts now.shelf.counts
   pub files : now.shelf.files ≡ before.shelf.files
 
--- Why a run ended so. Want of memory needs no cause.
+-- the count of faults of the source, of the shelf, of the sink stayed as it was
+abbrev pub NoReadFailed : Outside → Outside → Type 0
+NoReadFailed before now = now.source.faults ≡ before.source.faults
+
+abbrev pub NoFetchFailed : Outside → Outside → Type 0
+NoFetchFailed before now = now.shelf.counts.faults ≡ before.shelf.counts.faults
+
+abbrev pub NoWriteFailed : Outside → Outside → Type 0
+NoWriteFailed before now = now.sink.faults ≡ before.sink.faults
+
+-- nothing failed
+abbrev pub NothingFailed : Outside → Outside → Type 0
+NothingFailed before now = NoReadFailed before now × NoFetchFailed before now × NoWriteFailed before now
+
+-- Why a run ended so. A fault of a device ends it: the count of that device rose, and that of no other
+-- one. Where words on the command line or want of memory ended it, nothing failed.
 abbrev pub HasCauseOf : ℕ → Status → Outside → Outside → Type 0
-HasCauseOf limit Done before now = IsAtEnd now.source.left
-HasCauseOf limit Usage before now = Unit {0}
-HasCauseOf limit ReadFault before now = Rose before.source.faults now.source.faults
-HasCauseOf limit WriteFault before now = Rose before.sink.faults now.sink.faults
-HasCauseOf limit NoMemory before now = Unit {0}
-HasCauseOf limit ShelfFault before now = Rose before.shelf.counts.faults now.shelf.counts.faults
-HasCauseOf limit TooMuchInput before now = IfSome before.source.left (λ input. limit < length input)
+HasCauseOf limit Done before now = NothingFailed before now × IsAtEnd now.source.left
+HasCauseOf limit Usage before now = NothingFailed before now
+HasCauseOf limit ReadFault before now = Rose before.source.faults now.source.faults × NoFetchFailed before now × NoWriteFailed before now
+HasCauseOf limit WriteFault before now = Rose before.sink.faults now.sink.faults × NoReadFailed before now × NoFetchFailed before now
+HasCauseOf limit NoMemory before now = NothingFailed before now
+HasCauseOf limit ShelfFault before now = Rose before.shelf.counts.faults now.shelf.counts.faults × NoReadFailed before now × NoWriteFailed before now
+HasCauseOf limit TooMuchInput before now = NothingFailed before now × IfSome before.source.left (λ input. limit < length input)
 
 -- what was written of the reply to the line after those that were done: first bytes of the text of its event
 pub record Begun (before now : ShelfSide) (all : List (List ℕ)) (done : ℕ) (part : List ℕ) : Type 0 where
@@ -57,8 +72,9 @@ pub record Begun (before now : ShelfSide) (all : List (List ℕ)) (done : ℕ) (
   pub begins : take (length part) (text_of event) ≡ part
 
 -- Which lines were done when a run ended so, and whether it broke off within a reply, by the bytes
--- that it took: with status `Done` all lines; after a failed read, or where too many bytes came, all
--- those ended by a line feed in what counts; and else some first lines.
+-- that it took: with status `Done` all lines; after a failed read all those ended by a line feed; where
+-- too many bytes came, all those ended by a line feed in the first `limit` bytes; and else some first
+-- lines.
 abbrev pub HasDone : ℕ → Status → List ℕ → List (List ℕ) → List ℕ → Type 0
 HasDone limit Done bytes done part = (length bytes ≤ limit) × (done ≡ lines bytes) × (part ≡ [])
 HasDone limit Usage bytes done part = (bytes ≡ []) × (done ≡ []) × (part ≡ [])
@@ -92,5 +108,9 @@ HasRisen before now =
     Rose before.source.faults now.source.faults ⊎ (Rose before.sink.faults now.sink.faults ⊎ Rose before.shelf.counts.faults now.shelf.counts.faults)
 
 -- the run was done, or memory ran out, or else a count of faults rose
-abbrev pub EndsWell : Status → Outside → Outside → Type 0
-EndsWell status before now = (status ≡ Done) ⊎ ((status ≡ NoMemory) ⊎ HasRisen before now)
+abbrev pub IsDoneUnlessRisen : Status → Outside → Outside → Type 0
+IsDoneUnlessRisen status before now = (status ≡ Done) ⊎ ((status ≡ NoMemory) ⊎ HasRisen before now)
+
+-- too many bytes came, or memory ran out, or else a count of faults rose
+abbrev pub IsTooMuchUnlessRisen : Status → Outside → Outside → Type 0
+IsTooMuchUnlessRisen status before now = (status ≡ TooMuchInput) ⊎ ((status ≡ NoMemory) ⊎ HasRisen before now)

@@ -1,5 +1,6 @@
--- How bytes are fed to the program, one after another. Of a line it keeps the first bytes alone, one
--- more than a command can have with a carriage return behind it, and one more to tell that it is longer.
+-- For private functions: how bytes are fed to the program, one after another. Of a line it keeps the
+-- first bytes alone: as many as a command may have, a carriage return, and one more, which tells that
+-- the line is longer.
 use Rattle.std.specs.Prelude.{◌≡◌, ℕ, ◌<◌, ◌≤◌, List, [], ◌∷◌, ◌++◌, length, take, map, nat_lt, ◌==◌, if◌then◌else◌, Option, Result, MatchResult}
 use Rattle.std.specs.List.{AllByRecursion}
 use Rattle.std.specs.Str.Lines.{strip_carriage_return}
@@ -39,10 +40,14 @@ pub record ShelfPasses (before now : ShelfSide) : Type 0 where
   pub files : now.files ≡ before.files
   pub fetches : CountsGrow before.counts now.counts
 
--- the same, and the sink's count of faults didn't fall
+-- no count of the shelf or the sink fell, and the shelf has the files that it had
 pub record Passes (shelf shelf_now : ShelfSide) (sink sink_now : SinkSide) : Type 0 where
   pub on_shelf : ShelfPasses shelf shelf_now
   pub writes : sink.faults ≤ sink_now.faults
+
+-- no fetch and no write failed
+abbrev pub Calm : ShelfSide → ShelfSide → SinkSide → SinkSide → Type 0
+Calm shelf shelf_now sink sink_now = (shelf_now.counts.faults ≡ shelf.counts.faults) × (sink_now.faults ≡ sink.faults)
 
 -- the text for a command is ready, by answers of the shelf
 pub record Prepared (command : Option Command) (before now : ShelfSide) (text : List ℕ) : Type 0 where
@@ -50,6 +55,7 @@ pub record Prepared (command : Option Command) (before now : ShelfSide) (text : 
   pub given : AreAnswers before now (names_in command) answers
   pub is : text ≡ text_for command answers
   pub passes : ShelfPasses before now
+  pub calm : now.counts.faults ≡ before.counts.faults
 
 -- why it isn't ready
 abbrev pub Hinders : Status → ShelfSide → ShelfSide → Type 0
@@ -57,7 +63,7 @@ Hinders Done before now = ⊥
 Hinders Usage before now = ⊥
 Hinders ReadFault before now = ⊥
 Hinders WriteFault before now = ⊥
-Hinders NoMemory before now = Unit {0}
+Hinders NoMemory before now = now.counts.faults ≡ before.counts.faults
 Hinders ShelfFault before now = Rose before.counts.faults now.counts.faults
 Hinders TooMuchInput before now = ⊥
 
@@ -70,9 +76,9 @@ abbrev pub Stops : Status → ShelfSide → ShelfSide → SinkSide → SinkSide 
 Stops Done shelf shelf_now sink sink_now = ⊥
 Stops Usage shelf shelf_now sink sink_now = ⊥
 Stops ReadFault shelf shelf_now sink sink_now = ⊥
-Stops WriteFault shelf shelf_now sink sink_now = Rose sink.faults sink_now.faults
-Stops NoMemory shelf shelf_now sink sink_now = Unit {0}
-Stops ShelfFault shelf shelf_now sink sink_now = Rose shelf.counts.faults shelf_now.counts.faults
+Stops WriteFault shelf shelf_now sink sink_now = Rose sink.faults sink_now.faults × (shelf_now.counts.faults ≡ shelf.counts.faults)
+Stops NoMemory shelf shelf_now sink sink_now = Calm shelf shelf_now sink sink_now
+Stops ShelfFault shelf shelf_now sink sink_now = Rose shelf.counts.faults shelf_now.counts.faults × (sink_now.faults ≡ sink.faults)
 Stops TooMuchInput shelf shelf_now sink sink_now = ⊥
 
 -- with status `ShelfFault` nothing was begun
@@ -92,6 +98,7 @@ pub record Did (all : List (List ℕ)) (shelf shelf_now : ShelfSide) (sink sink_
   pub answered : AllByRecursion (IsAnswered shelf shelf_now) events
   pub wrote : Appends sink.taken sink_now.taken (texts_of events)
   pub passes : Passes shelf shelf_now sink sink_now
+  pub calm : Calm shelf shelf_now sink sink_now
 
 -- some first ones of these lines were done, and then it broke off
 pub record Broke (status : Status) (all : List (List ℕ)) (shelf shelf_now : ShelfSide) (sink sink_now : SinkSide) : Type 0 where

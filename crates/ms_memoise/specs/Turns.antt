@@ -1,4 +1,4 @@
--- What the turns of a conversation do: each reads some bytes and does the lines that they end.
+-- For private functions: what the turns of a conversation do. Each reads some bytes and does the lines that they end.
 use Rattle.std.specs.Prelude.{◌≡◌, ℕ, ◌≤◌, List, [], ◌∷◌, length, ◌==◌, if◌then◌else◌}
 use Rattle.std.specs.Io.KnownBytes.{Consumes, IsAtEnd}
 use Rattle.ms_outside.specs.Counts.{Rose}
@@ -17,13 +17,14 @@ pub record Turned (most : ℕ) (kept : List ℕ) (count : ℕ) (kept_now : List 
   pub end : count ≡ 0 → IsAtEnd now.source.left
   pub keeps : kept_now ≡ fed_kept kept bytes
   pub did : Did (ended_lines kept bytes) before.shelf now.shelf before.sink now.sink
-  pub reads : before.source.faults ≤ now.source.faults
+  pub reads : now.source.faults ≡ before.source.faults
 
 -- why a turn broke off: a read failed, or a line did
 abbrev pub TurnStops : Status → List ℕ → List ℕ → Outside → Outside → Type 0
 TurnStops ReadFault kept bytes before now =
     (bytes ≡ []) × Rose before.source.faults now.source.faults × Did [] before.shelf now.shelf before.sink now.sink
-TurnStops status kept bytes before now = Broke status (ended_lines kept bytes) before.shelf now.shelf before.sink now.sink
+TurnStops status kept bytes before now =
+    (now.source.faults ≡ before.source.faults) × Broke status (ended_lines kept bytes) before.shelf now.shelf before.sink now.sink
 
 pub record TurnBroke (status : Status) (most : ℕ) (kept : List ℕ) (before now : Outside) : Type 0 where
   pub bytes : List ℕ
@@ -45,9 +46,10 @@ Finishes status all shelf shelf_now sink sink_now = Broke status all shelf shelf
 abbrev pub Limited : Status → List ℕ → List ℕ → Outside → Outside → Type 0
 Limited ReadFault kept bytes before now =
     (bytes ≡ []) × Rose before.source.faults now.source.faults × Did [] before.shelf now.shelf before.sink now.sink
-Limited TooMuchInput kept bytes before now = (length bytes ≡ 1) × Did [] before.shelf now.shelf before.sink now.sink
+Limited TooMuchInput kept bytes before now =
+    (length bytes ≡ 1) × (now.source.faults ≡ before.source.faults) × Did [] before.shelf now.shelf before.sink now.sink
 Limited status kept bytes before now =
-    (bytes ≡ []) × IsAtEnd now.source.left × Finishes status (last_lines kept) before.shelf now.shelf before.sink now.sink
+    (bytes ≡ []) × (now.source.faults ≡ before.source.faults) × IsAtEnd now.source.left × Finishes status (last_lines kept) before.shelf now.shelf before.sink now.sink
 
 pub record AtLimit (status : Status) (kept : List ℕ) (before now : Outside) : Type 0 where
   pub bytes : List ℕ

@@ -1,7 +1,7 @@
 ghost use Rattle.std.specs.Prelude.{◌≡◌, ◌<◌, ◌≤◌, ◌↔◌, ◌≢◌, [], length, IfSome, IsSomeAnd};
 ghost use Rattle.std.specs.Io.KnownBytes.{Appends, IsAtEnd};
 ghost use Rattle.ms_outside.specs.Counts.{Rose};
-ghost use Rattle.ms_memoise.specs.Conversations.{Conversation, EndsWell, outside};
+ghost use Rattle.ms_memoise.specs.Conversations.{Conversation, IsDoneUnlessRisen, IsTooMuchUnlessRisen, outside};
 ghost use Rattle.ms_memoise.specs.Events.{replies, shelf_side};
 
 use crate::conversation::converse;
@@ -13,7 +13,9 @@ use std::alloc::Global;
 pub const MOST_INPUT: u32 = u32::MAX;
 
 /// The whole program. It takes no words. It reads command lines from the source to its end, asks the
-/// shelf for the class files in them, and writes the reply to each to the sink.
+/// shelf for the class files in them, and writes the reply to each to the sink. It takes at most
+/// 4,294,967,295 bytes, and one more to see that there are too many (`TooMuchInput`). A fault of a device
+/// ends it at once, as `ReadFault`, `ShelfFault` or `WriteFault`; want of memory ends it as `NoMemory`.
 pub fn memoise<S: Source, F: Shelf, K: Sink>(
     alloc: Global,
     words: &[String],
@@ -27,8 +29,9 @@ pub fn memoise<S: Source, F: Shelf, K: Sink>(
         (outside (S.left source.new) (S.faults source.new) (shelf_side (F.files shelf.new) (F.counts shelf.new)) (K.taken sink.new) (K.faults sink.new))
         result }
 
-    // Words on the command line, and nothing else, are refused.
+    // Status 2 comes exactly where there are words on the command line, and then nothing is touched.
     ensures usage { (result ≡ Status.Usage) ↔ (words.now ≢ []) }
+    ensures untouched { result ≡ Status.Usage → (source.new ≡ source.old) × (shelf.new ≡ shelf.old) × (sink.new ≡ sink.old) }
 
     // Where the source and the shelf tell what they hold, the sink took the replies to the lines of
     // the input, and the source was read to its end.
@@ -46,8 +49,12 @@ pub fn memoise<S: Source, F: Shelf, K: Sink>(
     ensures too_much { result ≡ Status.TooMuchInput → IfSome (S.left source.old) (λ input. 4294967295 < length input) }
     ensures enough { result ≡ Status.Done → IfSome (S.left source.old) (λ input. length input ≤ 4294967295) }
 
-    // With no words and an input within the limit it is done, unless memory ran out or a count rose.
-    ensures complete { words.now ≡ [] → IsSomeAnd (S.left source.old) (λ input. length input ≤ 4294967295) → EndsWell result
+    // With no words, an input within the limit is done and one above it is too much, unless memory ran
+    // out or a count of faults rose.
+    ensures complete { words.now ≡ [] → IsSomeAnd (S.left source.old) (λ input. length input ≤ 4294967295) → IsDoneUnlessRisen result
+        (outside (S.left source.old) (S.faults source.old) (shelf_side (F.files shelf.old) (F.counts shelf.old)) (K.taken sink.old) (K.faults sink.old))
+        (outside (S.left source.new) (S.faults source.new) (shelf_side (F.files shelf.new) (F.counts shelf.new)) (K.taken sink.new) (K.faults sink.new)) }
+    ensures beyond { words.now ≡ [] → IsSomeAnd (S.left source.old) (λ input. 4294967295 < length input) → IsTooMuchUnlessRisen result
         (outside (S.left source.old) (S.faults source.old) (shelf_side (F.files shelf.old) (F.counts shelf.old)) (K.taken sink.old) (K.faults sink.old))
         (outside (S.left source.new) (S.faults source.new) (shelf_side (F.files shelf.new) (F.counts shelf.new)) (K.taken sink.new) (K.faults sink.new)) }
 {

@@ -1,4 +1,4 @@
-ghost use Rattle.std.specs.Prelude.{◌≡◌, ◌≤◌, ◌⊎◌, ◌++◌, length};
+ghost use Rattle.std.specs.Prelude.{◌≡◌, ◌≤◌, ◌⊎◌, ◌++◌, [], length};
 ghost use Rattle.ms_memoise.specs.Events.{replies};
 
 use crate::program::memoise;
@@ -17,6 +17,7 @@ pub fn memoise_sure(
     requires { length source.old ≤ 4294967295 }
     ensures done { (result ≡ Status.Done) ⊎ (result ≡ Status.NoMemory) }
     // All of it was read, and the replies to its lines were written.
+    ensures end { result ≡ Status.Done → source.new ≡ [] }
     ensures replies { result ≡ Status.Done → sink.new ≡ sink.old ++ replies shelf.old.files source.old }
 {
     memoise(alloc, &[], source, shelf, sink)

@@ -1,5 +1,5 @@
 -- Files by name, and what a shelf answers.
-use Rattle.std.specs.Prelude.{ℕ, ◌≤◌, List, Option, Some, None, nat_lt, if◌then◌else◌, length, find}
+use Rattle.std.specs.Prelude.{◌≡◌, ℕ, ◌≤◌, List, Option, Some, None, nat_lt, if◌then◌else◌, length, find}
 use Rattle.std.specs.Str.{bytes_eq}
 use Rattle.std.specs.Option.{option_map}
 use Rattle.ms_outside.specs.Counts.{ShelfCounts, CountsGrow, Rose}
@@ -50,13 +50,13 @@ IsWithinLimit Absent = Unit {0}
 IsWithinLimit TooLong = Unit {0}
 IsWithinLimit (Found bytes) = length bytes ≤ most_bytes
 
--- the count that tells why this answer came has risen
+-- the count that tells why this answer came has risen, and the count of faults rose for a fault alone
 abbrev pub HasRisenFor : Fetch → ShelfCounts → ShelfCounts → Type 0
-HasRisenFor (fetched.Bytes bytes) before now = Unit {0}
-HasRisenFor fetched.Absent before now = Rose before.misses now.misses
-HasRisenFor fetched.TooLong before now = Rose before.overlong now.overlong
+HasRisenFor (fetched.Bytes bytes) before now = now.faults ≡ before.faults
+HasRisenFor fetched.Absent before now = Rose before.misses now.misses × (now.faults ≡ before.faults)
+HasRisenFor fetched.TooLong before now = Rose before.overlong now.overlong × (now.faults ≡ before.faults)
 HasRisenFor fetched.Failed before now = Rose before.faults now.faults
-HasRisenFor fetched.NoMemory before now = Unit {0}
+HasRisenFor fetched.NoMemory before now = now.faults ≡ before.faults
 
 -- what a fetch says of the shelf's counts
 pub record FetchHasCauses (before now : ShelfCounts) (result : Fetch) : Type 0 where

@@ -12,7 +12,7 @@ pub returns-in-Ok : goal.returns-in-Ok
 returns-in-Ok g c =
     did_one c.args.line.now c.in_ok-text.text.items c.as_slice.result.now _ _
     (sink_side (g.K.Sink.taken c.args.sink.now) (g.K.Sink.faults c.args.sink.now)) (sink_side (g.K.Sink.taken c.write_all.new.sink) (g.K.Sink.faults c.write_all.new.sink))
-    c.in_ok-text.ensures c.as_slice.ensures.value c.in-Ok.ensures.whole c.in-Ok.ensures.cause.grows
+    c.in_ok-text.ensures c.as_slice.ensures.value c.in-Ok.ensures.whole c.in-Ok.ensures.cause.steady
 
 pub returns : goal.returns
 returns g c =

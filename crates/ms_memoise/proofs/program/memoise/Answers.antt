@@ -3,7 +3,7 @@ use Rattle.std.proofs.lemmas.List.{nil_from_length}
 use Rattle.std.proofs.lemmas.Bool.{eqb-true}
 use Rattle.ms_memoise.specs.Conversations.{Conversation, outside}
 use Rattle.ms_memoise.specs.Events.{shelf_side}
-use Rattle.ms_memoise.proofs.Telling.{conversation_of_usage, ends_well, replied, short_input}
+use Rattle.ms_memoise.proofs.Telling.{conversation_of_usage, ends_beyond, ends_well, replied, short_input}
 use Rattle.ms_memoise.proofs.program.memoise.Goals as goal
 
 pub returns-then-not-is_empty-clause-conversation : goal.returns-then-not-is_empty-clause-conversation
@@ -22,3 +22,6 @@ returns-clause-enough g c = λ is. short_input _ _ (outside (g.S.Source.left c.c
 
 pub returns-clause-complete : goal.returns-clause-complete
 returns-clause-complete g c = λ none short. ends_well 4294967295 c.converse.result _ _ c.converse.ensures.conversation c.converse.ensures.words short
+
+pub returns-clause-beyond : goal.returns-clause-beyond
+returns-clause-beyond g c = λ none long. ends_beyond 4294967295 c.converse.result _ _ c.converse.ensures.conversation c.converse.ensures.words long
