@@ -1,33 +1,16 @@
 //! Class files: which of them are thin, and what their code does.
 
-use crate::running::{shelf, talk};
+use crate::running::check;
 use crate::worked::{ADDS, Change, changed, lengthened, thin};
-use ms_memoise::Status;
 use std::alloc::{AllocError, Global};
-use std::process::Abort;
 use std::test::Fail;
 
 const NOT_BUILT: &str = "refused 90 NotBuilt\n";
 
 /// The line for the worked file, and its reply.
-const LINE: &str = "once T.class f (II)I 5 3";
+const LINE: &[u8] = b"once T.class f (II)I 5 3";
 
 const SUM: &str = "ok returns 8\n";
-
-/// That this file has this reply to this line.
-fn check(
-    rt: &(impl Abort + AllocGlobal),
-    what: &str,
-    file: &[u8],
-    line: &str,
-    want: &str,
-) -> Result<(), AllocError> {
-    let mut shelf = shelf(rt.alloc(), file)?;
-    let (status, sink) = talk(rt.alloc(), &mut shelf, line.as_bytes())?;
-    assert_eq!(rt; status, Status::Done, "at {what}");
-    assert_eq!(rt; sink.taken(), want.as_bytes(), "at {what}");
-    Ok(())
-}
 
 /// What is changed in the worked file where it stays thin.
 static THIN: [(&str, &[Change]); 27] = [
@@ -114,15 +97,6 @@ static THIN: [(&str, &[Change]); 27] = [
     ),
     ("more locals", &[(86, 2, b"\x00\x03")]),
 ];
-
-#[test]
-fn thin_files_run(rt: HostRuntime) -> Result<(), Fail> {
-    for (what, changes) in &THIN {
-        let file = changed(rt.alloc(), changes)?;
-        check(&rt, what, file.as_slice(), LINE, SUM)?;
-    }
-    Ok(())
-}
 
 /// What is changed in the worked file where it is thin no more: its frame, its pool and its class.
 static NO_CLASS: [(&str, &[Change]); 39] = [
@@ -329,7 +303,11 @@ static NO_METHOD: [(&str, &[Change]); 45] = [
 ];
 
 #[test]
-fn other_files_are_refused(rt: HostRuntime) -> Result<(), Fail> {
+fn thin_files_run_and_others_are_refused(rt: HostRuntime) -> Result<(), Fail> {
+    for (what, changes) in &THIN {
+        let file = changed(rt.alloc(), changes)?;
+        check(&rt, what, file.as_slice(), LINE, SUM)?;
+    }
     for (what, changes) in NO_CLASS.iter().chain(NO_METHOD.iter()) {
         let file = changed(rt.alloc(), changes)?;
         check(&rt, what, file.as_slice(), LINE, NOT_BUILT)?;
@@ -500,7 +478,7 @@ fn code_runs(rt: HostRuntime) -> Result<(), Fail> {
             code,
         )?;
         let line = line_for(rt.alloc(), descriptor, words)?;
-        check(&rt, line.as_str(), file.as_slice(), line.as_str(), want)?;
+        check(&rt, line.as_str(), file.as_slice(), line.as_bytes(), want)?;
     }
     Ok(())
 }
@@ -532,7 +510,7 @@ fn code_has_at_most_19999_bytes(rt: HostRuntime) -> Result<(), Fail> {
             &rt,
             "long code",
             file.as_slice(),
-            "once T.class f (I)I 1",
+            b"once T.class f (I)I 1",
             want,
         )?;
     }

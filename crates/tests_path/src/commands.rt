@@ -1,8 +1,7 @@
 //! Command lines and the replies to them, over a shelf with the worked file alone.
 
-use crate::running::{shelf, talk};
+use crate::running::check;
 use crate::worked::ADDS;
-use ms_memoise::Status;
 use std::test::Fail;
 
 const NO_COMMAND: &str = "refused 2 Command\n";
@@ -17,17 +16,13 @@ once T.class f (II)I 1
 once U.class f (II)I 1 1
 twice
 ";
-    let want = b"ok returns -2147483648
+    let want = "ok returns -2147483648
 ok returns 0
 refused 90 NotBuilt
 refused 3 Absent U.class
 refused 2 Command
 ";
-    let mut shelf = shelf(rt.alloc(), &ADDS)?;
-    let (status, sink) = talk(rt.alloc(), &mut shelf, input)?;
-    assert_eq!(rt; status.code(), 0);
-    assert_eq!(rt; status.text(), "");
-    assert_eq!(rt; sink.taken(), want.as_slice());
+    check(&rt, "the worked lines", &ADDS, input, want)?;
     Ok(())
 }
 
@@ -105,11 +100,8 @@ static REPLIES: [(&str, &str); 50] = [
 
 #[test]
 fn lines_have_their_replies(rt: HostRuntime) -> Result<(), Fail> {
-    let mut shelf = shelf(rt.alloc(), &ADDS)?;
     for (line, want) in &REPLIES {
-        let (status, sink) = talk(rt.alloc(), &mut shelf, line.as_bytes())?;
-        assert_eq!(rt; status, Status::Done, "at {line}");
-        assert_eq!(rt; sink.taken(), want.as_bytes(), "at {line}");
+        check(&rt, line, &ADDS, line.as_bytes(), want)?;
     }
     Ok(())
 }

@@ -1,15 +1,14 @@
 //! Runs whose devices fail, or move one byte at a time, and runs past the limit of bytes.
 
-use crate::running::{shelf, source};
-use crate::trickle::{TrickleSink, TrickleSource};
-use crate::worked::ADDS;
-use ms_memoise::{Status, converse, memoise};
-use ms_outside::{Failed, MemoryShelf, MemorySink, MemorySource, Shelved, Source};
-use std::alloc::{AllocError, Global};
+use crate::running::{Devices, SOUND, check_run};
+use ms_memoise::{MOST_INPUT, Status, memoise};
+use ms_outside::{MemorySink, Source, SureShelf, SureSource};
+use std::alloc::AllocError;
 use std::process::Abort;
 use std::test::Fail;
 
-/// Three lines, the last of them without an end, and their replies.
+/// Three lines, the last of them without an end, and their replies. The lines have 25, 26 and 20
+/// bytes, and the replies 13, 13 and 25.
 const INPUT: &[u8] = b"once T.class f (II)I 1 2\nonce T.class f (II)I 3 4\r\nonce U.class f (II)I";
 
 const FIRST: &str = "ok returns 3\n";
@@ -18,126 +17,56 @@ const TWO: &str = "ok returns 3\nok returns 7\n";
 
 const ALL: &str = "ok returns 3\nok returns 7\nrefused 3 Absent U.class\n";
 
-/// One number, as a list.
-fn only(alloc: Global, number: u32) -> Result<Vec<u32>, AllocError> {
-    Vec::from_slice(alloc, &[number])
-}
+/// The most bytes that a call moves, the numbers of the read, the fetch and the write that fail, how
+/// the run ends, and what is written.
+static FAULTS: [(usize, u32, u32, u32, Status, &str); 24] = [
+    (4096, 0, 0, 0, Status::Done, ALL),
+    (1, 0, 0, 0, Status::Done, ALL),
+    (7, 0, 0, 0, Status::Done, ALL),
+    // Reads. The one behind the last byte tells that the source is at its end.
+    (4096, 1, 0, 0, Status::ReadFault, ""),
+    (4096, 2, 0, 0, Status::ReadFault, TWO),
+    (4096, 3, 0, 0, Status::Done, ALL),
+    (1, 1, 0, 0, Status::ReadFault, ""),
+    (1, 25, 0, 0, Status::ReadFault, ""),
+    (1, 26, 0, 0, Status::ReadFault, FIRST),
+    (1, 51, 0, 0, Status::ReadFault, FIRST),
+    (1, 52, 0, 0, Status::ReadFault, TWO),
+    (1, 71, 0, 0, Status::ReadFault, TWO),
+    (1, 72, 0, 0, Status::ReadFault, TWO),
+    // Fetches: one for each line.
+    (4096, 0, 1, 0, Status::ShelfFault, ""),
+    (4096, 0, 2, 0, Status::ShelfFault, FIRST),
+    (4096, 0, 3, 0, Status::ShelfFault, TWO),
+    // Writes.
+    (4096, 0, 0, 1, Status::WriteFault, ""),
+    (4096, 0, 0, 2, Status::WriteFault, FIRST),
+    (4096, 0, 0, 3, Status::WriteFault, TWO),
+    (1, 0, 0, 4, Status::WriteFault, "ok "),
+    (1, 0, 0, 13, Status::WriteFault, "ok returns 3"),
+    (1, 0, 0, 14, Status::WriteFault, FIRST),
+    (
+        1,
+        0,
+        0,
+        51,
+        Status::WriteFault,
+        "ok returns 3\nok returns 7\nrefused 3 Absent U.class",
+    ),
+    (1, 0, 0, 52, Status::Done, ALL),
+];
 
-/// Numbers of reads of one byte that fail, and what was written then. The three lines have 25, 26 and
-/// 20 bytes, and the read behind them tells that the source is at its end.
 #[test]
-fn a_failed_read_ends_the_run(rt: HostRuntime) -> Result<(), Fail> {
-    let cases = [
-        (1, ""),
-        (25, ""),
-        (26, FIRST),
-        (51, FIRST),
-        (52, TWO),
-        (71, TWO),
-        (72, TWO),
-    ];
-    assert_eq!(rt; INPUT.len(), 71);
-    let mut shelf = shelf(rt.alloc(), &ADDS)?;
-    for (number, want) in cases {
-        let fails = only(rt.alloc(), number)?;
-        let mut source = TrickleSource {
-            source: MemorySource::new(Vec::from_slice(rt.alloc(), INPUT)?, fails),
+fn a_fault_ends_the_run(rt: HostRuntime) -> Result<(), Fail> {
+    for (most, read, fetch, write, end, want) in &FAULTS {
+        let devices = Devices {
+            most: *most,
+            read: *read,
+            fetch: *fetch,
+            write: *write,
         };
-        let mut sink = MemorySink::new(rt.alloc(), Vec::new(rt.alloc()));
-        let status = memoise(rt.alloc(), &[], &mut source, &mut shelf, &mut sink);
-        assert_eq!(rt; status, Status::ReadFault, "at read {number}");
-        assert_eq!(rt; sink.taken(), want.as_bytes(), "at read {number}");
+        check_run(&rt, want, MOST_INPUT, devices, INPUT, *end, want)?;
     }
-    Ok(())
-}
-
-#[test]
-fn a_failed_read_of_a_block_ends_the_run(rt: HostRuntime) -> Result<(), Fail> {
-    let mut shelf = shelf(rt.alloc(), &ADDS)?;
-    for (number, want) in [(1, ""), (2, TWO)] {
-        let fails = only(rt.alloc(), number)?;
-        let mut source = MemorySource::new(Vec::from_slice(rt.alloc(), INPUT)?, fails);
-        let mut sink = MemorySink::new(rt.alloc(), Vec::new(rt.alloc()));
-        let status = memoise(rt.alloc(), &[], &mut source, &mut shelf, &mut sink);
-        assert_eq!(rt; status, Status::ReadFault, "at read {number}");
-        assert_eq!(rt; sink.taken(), want.as_bytes(), "at read {number}");
-    }
-    Ok(())
-}
-
-/// A shelf with the worked file whose fetch of this number fails.
-fn failing_shelf(alloc: Global, number: u32) -> Result<MemoryShelf, AllocError> {
-    let file = Shelved::new(
-        Vec::from_slice(alloc, b"T.class")?,
-        Vec::from_slice(alloc, &ADDS)?,
-    );
-    let mut files = Vec::new(alloc);
-    files.push(file)?;
-    Ok(MemoryShelf::new(files, only(alloc, number)?))
-}
-
-#[test]
-fn a_failed_fetch_ends_the_run(rt: HostRuntime) -> Result<(), Fail> {
-    for (number, want) in [(1, ""), (2, FIRST), (3, TWO)] {
-        let mut shelf = failing_shelf(rt.alloc(), number)?;
-        let mut source = source(rt.alloc(), INPUT)?;
-        let mut sink = MemorySink::new(rt.alloc(), Vec::new(rt.alloc()));
-        let status = memoise(rt.alloc(), &[], &mut source, &mut shelf, &mut sink);
-        assert_eq!(rt; status, Status::ShelfFault, "at fetch {number}");
-        assert_eq!(rt; sink.taken(), want.as_bytes(), "at fetch {number}");
-    }
-    Ok(())
-}
-
-#[test]
-fn a_failed_write_ends_the_run(rt: HostRuntime) -> Result<(), Fail> {
-    let mut shelf = shelf(rt.alloc(), &ADDS)?;
-    for (number, want) in [(1, ""), (2, FIRST), (3, TWO)] {
-        let mut source = source(rt.alloc(), INPUT)?;
-        let mut sink = MemorySink::new(rt.alloc(), only(rt.alloc(), number)?);
-        let status = memoise(rt.alloc(), &[], &mut source, &mut shelf, &mut sink);
-        assert_eq!(rt; status, Status::WriteFault, "at write {number}");
-        assert_eq!(rt; sink.taken(), want.as_bytes(), "at write {number}");
-    }
-    Ok(())
-}
-
-/// The replies have 13, 13 and 25 bytes.
-#[test]
-fn a_failed_write_of_a_part_ends_the_run(rt: HostRuntime) -> Result<(), Fail> {
-    let mut shelf = shelf(rt.alloc(), &ADDS)?;
-    let cases = [
-        (1, ""),
-        (4, "ok "),
-        (13, "ok returns 3"),
-        (14, FIRST),
-        (17, "ok returns 3\nok "),
-        (51, "ok returns 3\nok returns 7\nrefused 3 Absent U.class"),
-    ];
-    for (number, want) in cases {
-        let mut source = source(rt.alloc(), INPUT)?;
-        let mut sink = TrickleSink {
-            sink: MemorySink::new(rt.alloc(), only(rt.alloc(), number)?),
-        };
-        let status = memoise(rt.alloc(), &[], &mut source, &mut shelf, &mut sink);
-        assert_eq!(rt; status, Status::WriteFault, "at write {number}");
-        assert_eq!(rt; sink.sink.taken(), want.as_bytes(), "at write {number}");
-    }
-    Ok(())
-}
-
-#[test]
-fn one_byte_at_a_time_serves(rt: HostRuntime) -> Result<(), Fail> {
-    let mut shelf = shelf(rt.alloc(), &ADDS)?;
-    let mut source = TrickleSource {
-        source: source(rt.alloc(), INPUT)?,
-    };
-    let mut sink = TrickleSink {
-        sink: MemorySink::new(rt.alloc(), Vec::new(rt.alloc())),
-    };
-    let status = memoise(rt.alloc(), &[], &mut source, &mut shelf, &mut sink);
-    assert_eq!(rt; status, Status::Done);
-    assert_eq!(rt; sink.sink.taken(), ALL.as_bytes());
     Ok(())
 }
 
@@ -196,56 +125,45 @@ static LIMITS: [(u32, &[u8], Status, &str); 14] = [
 
 #[test]
 fn a_limit_is_kept(rt: HostRuntime) -> Result<(), Fail> {
-    let mut shelf = shelf(rt.alloc(), &ADDS)?;
-    for (at, (limit, input, end, want)) in LIMITS.iter().enumerate() {
-        let mut source = source(rt.alloc(), input)?;
-        let mut sink = MemorySink::new(rt.alloc(), Vec::new(rt.alloc()));
-        let status = converse(rt.alloc(), *limit, &mut source, &mut shelf, &mut sink);
-        assert_eq!(rt; status, *end, "at {at}");
-        assert_eq!(rt; sink.taken(), want.as_bytes(), "at {at}");
-    }
-    Ok(())
-}
-
-/// The same one byte at a time.
-#[test]
-fn a_limit_is_kept_byte_by_byte(rt: HostRuntime) -> Result<(), Fail> {
-    let mut shelf = shelf(rt.alloc(), &ADDS)?;
-    for (at, (limit, input, end, want)) in LIMITS.iter().enumerate() {
-        let mut source = TrickleSource {
-            source: source(rt.alloc(), input)?,
+    for (limit, input, end, want) in &LIMITS {
+        check_run(&rt, "whole blocks", *limit, SOUND, input, *end, want)?;
+        let slow = Devices {
+            most: 1,
+            read: 0,
+            fetch: 0,
+            write: 0,
         };
-        let mut sink = MemorySink::new(rt.alloc(), Vec::new(rt.alloc()));
-        let status = converse(rt.alloc(), *limit, &mut source, &mut shelf, &mut sink);
-        assert_eq!(rt; status, *end, "at {at}");
-        assert_eq!(rt; sink.taken(), want.as_bytes(), "at {at}");
+        check_run(&rt, "single bytes", *limit, slow, input, *end, want)?;
     }
-    Ok(())
-}
-
-#[test]
-fn a_failed_read_at_the_limit_ends_the_run(rt: HostRuntime) -> Result<(), Fail> {
-    let mut shelf = shelf(rt.alloc(), &ADDS)?;
-    let fails = only(rt.alloc(), 2)?;
-    let mut source = MemorySource::new(Vec::from_slice(rt.alloc(), b"twice\ntwice")?, fails);
-    let mut sink = MemorySink::new(rt.alloc(), Vec::new(rt.alloc()));
-    let status = converse(rt.alloc(), 11, &mut source, &mut shelf, &mut sink);
-    assert_eq!(rt; status, Status::ReadFault);
-    assert_eq!(rt; sink.taken(), b"refused 2 Command\n".as_slice());
+    // The read that looks past the limit fails.
+    let failing = Devices {
+        most: 4096,
+        read: 2,
+        fetch: 0,
+        write: 0,
+    };
+    let want = "refused 2 Command\n";
+    check_run(
+        &rt,
+        "the look",
+        11,
+        failing,
+        b"twice\ntwice",
+        Status::ReadFault,
+        want,
+    )?;
     Ok(())
 }
 
 /// That words are refused, with nothing read or written.
 fn check_words(rt: &(impl Abort + AllocGlobal), words: &[String]) -> Result<(), AllocError> {
-    let mut shelf = shelf(rt.alloc(), &ADDS)?;
-    let mut source = source(rt.alloc(), INPUT)?;
+    let mut source = SureSource::new(Vec::from_slice(rt.alloc(), INPUT)?);
+    let mut shelf = SureShelf::new(Vec::new(rt.alloc()));
     let mut sink = MemorySink::new(rt.alloc(), Vec::new(rt.alloc()));
     let status = memoise(rt.alloc(), words, &mut source, &mut shelf, &mut sink);
     assert_eq!(rt; status, Status::Usage);
-    assert_eq!(rt; sink.taken(), b"".as_slice());
-    let mut buffer = [0; 100];
-    let left: Result<usize, Failed> = source.read(&mut buffer);
-    assert_eq!(rt; left, Ok(71));
+    assert!(rt; sink.taken().is_empty());
+    assert_eq!(rt; source.read(&mut [0; 100]), Ok(71));
     Ok(())
 }
 

@@ -15,8 +15,8 @@ mod layers;
 #[cfg(test)]
 mod lines;
 #[cfg(test)]
-mod running;
+mod paced;
 #[cfg(test)]
-mod trickle;
+mod running;
 #[cfg(test)]
 mod worked;

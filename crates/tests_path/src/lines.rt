@@ -1,19 +1,17 @@
 //! Lines: where they end, and how long they may be.
 
-use crate::running::{shelf, talk};
+use crate::running::check;
 use crate::worked::ADDS;
-use ms_memoise::Status;
 use std::alloc::{AllocError, Global};
-use std::process::Abort;
 use std::test::Fail;
 
-/// The first of the worked lines' replies, of a sum, and of a line that is no command.
+/// The replies to the sum of 1 and 2, and to a line that is no command.
 const SUM: &str = "ok returns 3\n";
 
 const NO_COMMAND: &str = "refused 2 Command\n";
 
 /// Inputs and what is written for them.
-static ENDS: [(&[u8], &str); 24] = [
+static ENDS: [(&[u8], &str); 25] = [
     (b"", ""),
     (b"\n", ""),
     (b"\r\n", ""),
@@ -38,27 +36,18 @@ static ENDS: [(&[u8], &str); 24] = [
     (b"once T.class f (II)I 1 2 \x7f\n", NO_COMMAND),
     (b"once T.class f (II)I 1 2 \x80\n", NO_COMMAND),
     (b"once T.class f (II)I 1 2 \0\n", NO_COMMAND),
+    (
+        b"\ntwice\n\r\n  \nonce T.class f (II)I 1 2\r\n\nonce U.class f (II)I\n \ntwice",
+        "refused 2 Command\nok returns 3\nrefused 3 Absent U.class\nrefused 2 Command\n",
+    ),
 ];
 
 #[test]
 fn lines_end_at_line_feeds(rt: HostRuntime) -> Result<(), Fail> {
-    let mut shelf = shelf(rt.alloc(), &ADDS)?;
     for (at, (input, want)) in ENDS.iter().enumerate() {
-        let (status, sink) = talk(rt.alloc(), &mut shelf, input)?;
-        assert_eq!(rt; status, Status::Done, "at {at}");
-        assert_eq!(rt; sink.taken(), want.as_bytes(), "at {at}");
+        let what = format!(in rt.alloc(); "{at}")?;
+        check(&rt, what.as_str(), &ADDS, input, want)?;
     }
-    Ok(())
-}
-
-#[test]
-fn empty_lines_have_no_reply(rt: HostRuntime) -> Result<(), Fail> {
-    let mut shelf = shelf(rt.alloc(), &ADDS)?;
-    let input = b"\ntwice\n\r\n  \nonce T.class f (II)I 1 2\r\n\nonce U.class f (II)I\n \ntwice";
-    let want = b"refused 2 Command\nok returns 3\nrefused 3 Absent U.class\nrefused 2 Command\n";
-    let (status, sink) = talk(rt.alloc(), &mut shelf, input)?;
-    assert_eq!(rt; status, Status::Done);
-    assert_eq!(rt; sink.taken(), want.as_slice());
     Ok(())
 }
 
@@ -73,7 +62,7 @@ fn padded(alloc: Global, front: &[u8], size: usize, end: &[u8]) -> Result<Vec<u8
 }
 
 /// Fronts of lines, the sizes to which spaces fill them, what follows, and what is written.
-static SIZES: [(&[u8], usize, &[u8], &str); 17] = [
+static SIZES: [(&[u8], usize, &[u8], &str); 18] = [
     (b"once T.class f (II)I 1 2", 4096, b"", SUM),
     (b"once T.class f (II)I 1 2", 4096, b"\n", SUM),
     (b"once T.class f (II)I 1 2", 4096, b"\r\n", SUM),
@@ -96,38 +85,20 @@ static SIZES: [(&[u8], usize, &[u8], &str); 17] = [
         b"\n\ntwice",
         "refused 2 Command\nrefused 2 Command\n",
     ),
-];
-
-fn check_size(
-    rt: &(impl Abort + AllocGlobal),
-    at: usize,
-    line: &[u8],
-    want: &str,
-) -> Result<(), AllocError> {
-    let mut shelf = shelf(rt.alloc(), &ADDS)?;
-    let (status, sink) = talk(rt.alloc(), &mut shelf, line)?;
-    assert_eq!(rt; status, Status::Done, "at {at}");
-    assert_eq!(rt; sink.taken(), want.as_bytes(), "at {at}");
-    Ok(())
-}
-
-#[test]
-fn lines_have_at_most_4096_bytes(rt: HostRuntime) -> Result<(), Fail> {
-    for (at, (front, size, end, want)) in SIZES.iter().enumerate() {
-        let line = padded(rt.alloc(), front, *size, end)?;
-        check_size(&rt, at, line.as_slice(), want)?;
-    }
-    Ok(())
-}
-
-#[test]
-fn a_long_line_ends_where_it_ends(rt: HostRuntime) -> Result<(), Fail> {
-    let line = padded(
-        rt.alloc(),
+    (
         b"twice",
         10_000,
         b"\nonce T.class f (II)I 1 2\n",
-    )?;
-    check_size(&rt, 0, line.as_slice(), "refused 2 Command\nok returns 3\n")?;
+        "refused 2 Command\nok returns 3\n",
+    ),
+];
+
+#[test]
+fn lines_have_at_most_4096_bytes(rt: HostRuntime) -> Result<(), Fail> {
+    for (front, size, end, want) in &SIZES {
+        let line = padded(rt.alloc(), front, *size, end)?;
+        let what = format!(in rt.alloc(); "{size} and {end:?}")?;
+        check(&rt, what.as_str(), &ADDS, line.as_slice(), want)?;
+    }
     Ok(())
 }
