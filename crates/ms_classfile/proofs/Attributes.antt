@@ -1,12 +1,12 @@
 -- The attributes that are read are spelled there, and those that are spelled are read.
-use Rattle.std.proofs.Common.{◌≡◌, ℕ, ◌+◌, ◌^◌, ◌<◌, Bool, true, false, List, [], ◌∷◌, ◌++◌, length, Option, Some, None, refl, sym, ap, subst, ◌∙◌, append_assoc, arith}
+use Rattle.std.proofs.Common.{◌≡◌, ℕ, List, [], ◌∷◌, ◌++◌, length, Some, refl, subst, append_assoc}
 use Rattle.std.specs.Prelude.{IsTrue, is_some}
 use Rattle.std.specs.List.{list_all, flat_map, AllByRecursion}
 use Rattle.std.proofs.lemmas.Bool.{and_parts, and_from}
 use Rattle.ms_pool.specs.Places.{Place}
 use Rattle.ms_pool.specs.Numbers.{IsBytes, width2, width4}
 use Rattle.ms_classfile.specs.ThinFile.{Entry, Attribute, u2, u4, utf8, has_name, spelled_attribute, spelled_attributes, AttributeFits, AttributesFit}
-use Rattle.ms_classfile.specs.Reading.{◌>>=◌, provided, u2_at, u4_at, bytes_at, repeated, attribute_at, attributes_at}
+use Rattle.ms_classfile.specs.Reading.{u2_at, u4_at, bytes_at, attribute_at, attributes_at}
 use Rattle.ms_classfile.proofs.Steps.{then_some, provided_some, some_is}
 use Rattle.ms_classfile.proofs.Fields.{Takes, Takes-is, Reaches, number_takes, number_reaches, run_takes, run_reaches, repeated_takes, repeated_reaches}
 

@@ -1,20 +1,19 @@
 -- What a Code attribute holds is spelled there, and what is spelled there is read.
-use Rattle.std.proofs.Common.{◌≡◌, ℕ, ◌+◌, ◌^◌, ◌<◌, ◌≤◌, Bool, true, false, eqb, List, [], ◌∷◌, ◌++◌, length, Option, Some, None, refl, sym, ap, subst, ◌∙◌, append_assoc, arith}
-use Rattle.std.specs.Prelude.{IsTrue, nat_le, ◌&&◌, ◌==◌}
-use Rattle.std.specs.List.{flat_map, AllByRecursion}
-use Rattle.std.proofs.lemmas.Bool.{and_parts, and_from, leb-true, le-leb, eqb-true, eq-eqb}
+use Rattle.std.proofs.Common.{◌≡◌, ℕ, true, eqb, List, [], ◌++◌, length, Some, refl, sym, ap, subst, ◌∙◌, append_assoc, arith}
+use Rattle.std.specs.Prelude.{nat_le, ◌&&◌, ◌==◌}
+use Rattle.std.proofs.lemmas.Bool.{and_parts, leb-true, le-leb, eqb-true, eq-eqb}
 use Rattle.std.proofs.lemmas.List.{append-nil, nil_from_length}
 use Rattle.ms_pool.specs.Places.{Place, beginning}
 use Rattle.ms_pool.specs.Numbers.{IsBytes, width2, width4}
 use Rattle.ms_classfile.specs.declared.instruction.Instruction.{Instruction}
 use Rattle.ms_classfile.specs.declared.thin.parts.Limits.{Limits}
-use Rattle.ms_classfile.specs.Instructions.{spelled_instruction, is_walked}
+use Rattle.ms_classfile.specs.Instructions.{is_walked}
 use Rattle.ms_classfile.specs.ThinFile.{Entry, Attribute, Code, u2, u4, code_bytes, spelled_attributes, spelled_code, IsThinCode}
-use Rattle.ms_classfile.specs.Reading.{◌>>=◌, provided, u2_at, u4_at, bytes_at, limits_at, attributes_at, rest_is_plain, instructions_of, code_of}
+use Rattle.ms_classfile.specs.Reading.{provided, u2_at, u4_at, bytes_at, limits_at, attributes_at, rest_is_plain, instructions_of, code_of}
 use Rattle.ms_classfile.proofs.Steps.{then_some, provided_some, some_is}
-use Rattle.ms_classfile.proofs.Fields.{Takes, Takes-is, Reaches, number_takes, number_reaches, run_takes, run_reaches}
+use Rattle.ms_classfile.proofs.Fields.{Takes, Takes-is, number_takes, number_reaches, run_takes, run_reaches}
 use Rattle.ms_classfile.proofs.Attributes.{AreHeld, attributes_takes, attributes_reaches}
-use Rattle.ms_classfile.proofs.Instructions.{AreInstructions, instructions_take, instructions_reach}
+use Rattle.ms_classfile.proofs.Instructions.{instructions_take, instructions_reach}
 
 limits_takes : (start front : List ℕ) (place : Place) (x : Limits × Place) → Takes start front place.left → limits_at place ≡ Some x → Takes start (front ++ u2 x.0.max_stack ++ u2 x.0.max_locals) x.1.left
 unfolding limits_at

@@ -1,7 +1,6 @@
 -- the definitions computed on a file
 use Rattle.std.proofs.Common.{◌≡◌, ℕ, List, [], ◌∷◌, Some, refl, codes}
-use Rattle.ms_classfile.specs.declared.instruction.Instruction.TheVariants.{Iload, Iconst, Bipush, Iadd, Isub, Ireturn}
-use Rattle.ms_classfile.specs.ThinFile.{Method}
+use Rattle.ms_classfile.specs.declared.instruction.Instruction.TheVariants.{Iload, Iadd, Ireturn}
 use Rattle.ms_classfile.specs.Reading.{thin_method, repeated, text_at, class_at, entry_at, pool_at, attribute_at, attributes_at, instructions_of, limits_at, rest_is_plain, code_of, method_at, header_at, class_part_at, counts_at}
 
 abbrev file : List ℕ

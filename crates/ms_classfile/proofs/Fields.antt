@@ -1,12 +1,11 @@
 -- A field that is read is the one that is spelled there, and what is spelled is read again.
-use Rattle.std.proofs.Common.{◌≡◌, ℕ, zero, suc, ◌+◌, ◌^◌, ◌<◌, ◌≤◌, Bool, true, false, cond, ltb, List, [], ◌∷◌, ◌++◌, length, get_or, take, drop, Option, Some, None, Result, Ok, Err, refl, sym, ap, subst, ◌∙◌, append_assoc, arith, inl, inr}
+use Rattle.std.proofs.Common.{◌≡◌, ℕ, zero, suc, ◌^◌, ◌<◌, List, [], ◌∷◌, ◌++◌, length, take, drop, Option, Some, Result, Ok, Err, refl, sym, ap, subst, ◌∙◌, append_assoc, arith}
 use Rattle.std.specs.List.{flat_map, AllByRecursion}
 use Rattle.std.specs.Result.{result_ok}
 use Rattle.std.proofs.lemmas.List.{append-nil, take-append-drop, length-take}
-use Rattle.std.proofs.lemmas.List.Concat.{flat_map-cons}
 use Rattle.ms_pool.specs.Places.{Place, behind, number_bytes, number_at, run_at}
 use Rattle.ms_pool.specs.Numbers.{IsBytes, IsBytes-drop, IsBytes-take, IsWidth, IsRead, number_is_read, run_is_read, number_again, run_again}
-use Rattle.ms_classfile.specs.Reading.{◌>>=◌, repeated, bytes_at}
+use Rattle.ms_classfile.specs.Reading.{repeated, bytes_at}
 use Rattle.ms_classfile.proofs.Steps.{then_some, some_is}
 
 -- from the start up to the rest the bytes are this text, and the rest is bytes

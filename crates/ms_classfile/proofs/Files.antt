@@ -1,22 +1,22 @@
 -- The thin file that is read is spelled by the bytes, and one that is spelled is read.
-use Rattle.std.proofs.Common.{◌≡◌, ℕ, ◌+◌, ◌^◌, ◌<◌, ◌≤◌, Bool, true, false, eqb, List, [], ◌∷◌, ◌++◌, length, Option, Some, None, refl, sym, ap, subst, ◌∙◌, append_assoc, arith, codes, inl, inr, All}
+use Rattle.std.proofs.Common.{◌≡◌, ℕ, ◌^◌, ◌<◌, ◌≤◌, true, eqb, List, [], ◌++◌, length, Option, Some, None, refl, sym, ap, subst, ◌∙◌, append_assoc, arith, codes, inl, inr, All}
 use Rattle.std.specs.Prelude.{IsTrue, IsSomeAnd, is_none, nat_le, ◌&&◌, ◌==◌}
 use Rattle.std.specs.Str.{bytes_eq}
-use Rattle.std.proofs.lemmas.Bool.{cases_lt, and_parts, and_from, leb-true, le-leb, eqb-true, eq-eqb}
+use Rattle.std.proofs.lemmas.Bool.{cases_lt, and_parts, leb-true, le-leb, eqb-true, eq-eqb}
 use Rattle.std.proofs.lemmas.List.{append-nil, get_or_past}
 use Rattle.std.proofs.lemmas.Slice.Eq.{bytes_eq-Decides}
 use Rattle.ms_words.specs.Throwables.{thrown_named}
 use Rattle.ms_pool.specs.Places.{Place, beginning}
 use Rattle.ms_pool.specs.Numbers.{IsBytes, width2, width4}
 use Rattle.ms_classfile.specs.Instructions.{is_walked}
-use Rattle.ms_classfile.specs.ThinFile.{Entry, Attribute, ThinFile, Method, IsThinClass, HasThinMethod, IsThinFile, u2, u4, magic, class_name, spelled_pool, spelled_attributes, spelled_file}
-use Rattle.ms_classfile.specs.Reading.{◌>>=◌, provided, u2_at, u4_at, is_ordinary, header_at, pool_at, class_part_at, counts_at, method_at, attributes_at, thin_method}
+use Rattle.ms_classfile.specs.ThinFile.{Entry, ThinFile, Method, IsThinClass, HasThinMethod, IsThinFile, u2, u4, magic, class_name, spelled_pool, spelled_attributes, spelled_file}
+use Rattle.ms_classfile.specs.Reading.{provided, u2_at, u4_at, is_ordinary, header_at, pool_at, class_part_at, counts_at, method_at, attributes_at, thin_method}
 use Rattle.ms_classfile.proofs.Steps.{then_some, provided_some, some_is}
-use Rattle.ms_classfile.proofs.Fields.{Takes, Takes-is, Reaches, number_takes, number_reaches}
-use Rattle.ms_classfile.proofs.Pool.{IsPool, pool_takes, pool_reaches}
-use Rattle.ms_classfile.proofs.Attributes.{AreHeld, attributes_takes, attributes_reaches}
+use Rattle.ms_classfile.proofs.Fields.{Takes, Takes-is, number_takes, number_reaches}
+use Rattle.ms_classfile.proofs.Pool.{pool_takes, pool_reaches}
+use Rattle.ms_classfile.proofs.Attributes.{attributes_takes, attributes_reaches}
 use Rattle.ms_classfile.proofs.CodeParts.{ends_there}
-use Rattle.ms_classfile.proofs.MethodParts.{TakesMethod, method_takes, method_reaches}
+use Rattle.ms_classfile.proofs.MethodParts.{method_takes, method_reaches}
 
 -- ---- magic and version
 

@@ -1,7 +1,7 @@
 -- The instructions that are read are spelled there, and those that are spelled are read.
-use Rattle.std.proofs.Common.{◌≡◌, ℕ, zero, suc, ◌+◌, ◌-◌, ◌<◌, ◌≤◌, Bool, true, false, eqb, List, [], ◌∷◌, ◌++◌, Option, Some, None, refl, sym, ap, subst, ◌∙◌, arith, inl, inr, ℤ, pos, negsuc}
+use Rattle.std.proofs.Common.{◌≡◌, ℕ, zero, suc, ◌+◌, ◌-◌, ◌<◌, ◌≤◌, true, false, eqb, List, [], ◌∷◌, ◌++◌, Some, None, refl, sym, ap, subst, ◌∙◌, arith, inl, inr, ℤ, pos, negsuc}
 use Rattle.std.specs.Prelude.{◌==◌, ◌&&◌, nat_le, ◌≤ℤ◌, ◌-ℤ◌}
-use Rattle.std.specs.Int.{w8, cast_signed, cast_unsigned}
+use Rattle.std.specs.Int.{w8, cast_signed}
 use Rattle.std.specs.Option.{option_map}
 use Rattle.std.specs.List.{flat_map, AllByRecursion}
 use Rattle.std.proofs.lemmas.Bool.{eqb-true, leb-true, and_parts}
@@ -11,7 +11,7 @@ use Rattle.ms_pool.specs.Numbers.{IsBytes}
 use Rattle.ms_classfile.specs.declared.instruction.Instruction.{Instruction}
 use Rattle.ms_classfile.specs.declared.instruction.Instruction.TheVariants.{Iload, Iconst, Bipush, Iadd, Isub, Ireturn}
 use Rattle.ms_classfile.specs.Instructions.{iconst_opcode, spelled_instruction, IsPlain}
-use Rattle.ms_classfile.specs.Reading.{◌>>=◌, short_instruction, instructions_of}
+use Rattle.ms_classfile.specs.Reading.{short_instruction, instructions_of}
 use Rattle.ms_classfile.specs.Found.{first_instruction}
 use Rattle.ms_classfile.proofs.Steps.{then_some, some_is, either, mapped_some}
 use Rattle.ms_classfile.proofs.Decoding.{splits}

@@ -1,19 +1,18 @@
 -- The method that is read is spelled there, and one that is spelled is read.
-use Rattle.std.proofs.Common.{◌≡◌, ℕ, zero, suc, ◌+◌, ◌^◌, ◌<◌, ◌≤◌, Bool, true, false, cond, List, [], ◌∷◌, ◌++◌, length, map, filter, Option, Some, None, refl, sym, ap, subst, ◌∙◌, arith, inl, inr, codes}
-use Rattle.std.specs.Prelude.{IsTrue, find}
+use Rattle.std.proofs.Common.{◌≡◌, ℕ, zero, suc, ◌≤◌, Bool, true, List, [], ◌∷◌, ◌++◌, map, filter, Some, refl, sym, ap, subst, ◌∙◌, arith, inl, inr, codes}
+use Rattle.std.specs.Prelude.{find}
 use Rattle.std.specs.Str.{bytes_eq}
-use Rattle.std.specs.List.{list_all, AllByRecursion}
+use Rattle.std.specs.List.{AllByRecursion}
 use Rattle.std.proofs.lemmas.Bool.{cond_both}
 use Rattle.std.proofs.lemmas.Slice.Eq.{bytes_eq-Decides}
 use Rattle.ms_pool.specs.Places.{Place}
 use Rattle.ms_pool.specs.Numbers.{width2}
-use Rattle.ms_classfile.specs.declared.instruction.Instruction.{Instruction}
 use Rattle.ms_classfile.specs.ThinFile.{Entry, Attribute, Code, ThinFile, Method, HasThinMethod, u2, utf8, is_named, int_descriptor, is_plain_static, spelled_attributes, spelled_code}
-use Rattle.ms_classfile.specs.Reading.{◌>>=◌, provided, only, parameters_of, u2_at, attributes_at, code_of, method_at}
+use Rattle.ms_classfile.specs.Reading.{provided, only, parameters_of, u2_at, attributes_at, code_of, method_at}
 use Rattle.ms_classfile.proofs.Steps.{then_some, provided_some, some_is, either}
 use Rattle.ms_classfile.proofs.Fields.{Takes, Reaches, number_takes, number_reaches}
-use Rattle.ms_classfile.proofs.Attributes.{IsFound, AreHeld, attributes_takes, attributes_reaches}
-use Rattle.ms_classfile.proofs.CodeParts.{HoldsCode, code_takes, code_reaches}
+use Rattle.ms_classfile.proofs.Attributes.{IsFound, attributes_takes, attributes_reaches}
+use Rattle.ms_classfile.proofs.CodeParts.{code_takes, code_reaches}
 
 -- ---- the descriptor
 

@@ -1,5 +1,5 @@
 -- The one element of a list that passes a test, as a loop finds it.
-use Rattle.std.proofs.Common.{◌≡◌, List, [], ◌∷◌, Option, Some, None}
+use Rattle.std.proofs.Common.{List, [], ◌∷◌, Option, Some, None}
 use Rattle.ms_classfile.specs.Reading.{only}
 
 -- the one element, where this one was met before, or none

@@ -1,12 +1,12 @@
 -- The constant pool that is read is spelled there, and one that is spelled is read.
-use Rattle.std.proofs.Common.{◌≡◌, ℕ, ◌+◌, ◌-◌, ◌^◌, ◌<◌, Bool, true, false, cond, ltb, eqb, List, [], ◌∷◌, ◌++◌, length, Option, Some, None, refl, sym, ap, subst, ◌∙◌, append_assoc, arith, inl, inr}
+use Rattle.std.proofs.Common.{◌≡◌, ℕ, ◌+◌, ◌-◌, ◌^◌, ◌<◌, true, ltb, eqb, List, ◌++◌, length, Some, refl, ap, subst, ◌∙◌, append_assoc, arith, inl, inr}
 use Rattle.std.specs.Prelude.{IsTrue, ◌==◌, nat_lt}
 use Rattle.std.specs.List.{list_all, flat_map, AllByRecursion}
 use Rattle.std.proofs.lemmas.Bool.{ltb-true, lt-ltb, eqb-true}
 use Rattle.ms_pool.specs.Places.{Place}
 use Rattle.ms_pool.specs.Numbers.{width1, width2}
 use Rattle.ms_classfile.specs.ThinFile.{Entry, Utf8, Class, u1, u2, spelled_entry, spelled_pool, EntryFits, is_linked}
-use Rattle.ms_classfile.specs.Reading.{◌>>=◌, provided, u1_at, u2_at, bytes_at, repeated, text_at, class_at, entry_at, pool_at}
+use Rattle.ms_classfile.specs.Reading.{provided, u1_at, u2_at, bytes_at, repeated, text_at, class_at, entry_at, pool_at}
 use Rattle.ms_classfile.proofs.Steps.{then_some, provided_some, some_is, either}
 use Rattle.ms_classfile.proofs.Fields.{Takes, Takes-is, Reaches, number_takes, number_reaches, run_takes, run_reaches, repeated_takes, repeated_reaches}
 

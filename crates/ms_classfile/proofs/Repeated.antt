@@ -2,10 +2,7 @@
 use Rattle.std.proofs.Common.{◌≡◌, ℕ, suc, ◌-◌, ◌+◌, ◌≤◌, ◌<◌, List, [], ◌∷◌, ◌++◌, Option, Some, None, refl, sym, ap, ◌∙◌, append_assoc, arith}
 use Rattle.std.proofs.lemmas.List.{append-nil}
 use Rattle.ms_pool.specs.Places.{Place}
-use Rattle.ms_classfile.specs.declared.thin.failure.Failure.{Failure}
-use Rattle.ms_classfile.specs.declared.thin.failure.Failure.TheVariants as failures
 use Rattle.ms_classfile.specs.Reading.{◌>>=◌, repeated}
-use Rattle.ms_classfile.specs.Found.{Fails}
 
 -- what was read before, and what is still read
 abbrev pub with_front : {X : Type 0} → List X → Option (List X × Place) → Option (List X × Place)
@@ -23,11 +20,10 @@ goes_on read front count i place first after total below found so_far =
     let one : with_front front (repeated read (count - i) place) ≡ with_front (front ++ first ∷ []) (repeated read (count - (i + 1)) after) = rw (more, found) (regroup front first (repeated read (count - (i + 1)) after)) in
     sym one ∙ so_far
 
-pub ends : {X : Type 0} (failure : Failure) (read : Place → Option (X × Place)) (front : List X) (count i : ℕ) (place : Place) (total : Option (List X × Place)) → i < count → Fails failure (read place)
-    → with_front front (repeated read (count - i) place) ≡ total → Fails failure total
+pub ends : {X : Type 0} (read : Place → Option (X × Place)) (front : List X) (count i : ℕ) (place : Place) (total : Option (List X × Place)) → i < count → read place ≡ None
+    → with_front front (repeated read (count - i) place) ≡ total → total ≡ None
 unfolding repeated
-ends failures.NoMemory read front count i place total below fails so_far = tt
-ends failures.NotThin read front count i place total below fails so_far =
+ends read front count i place total below fails so_far =
     let more : count - i ≡ suc (count - (i + 1)) = omega arith in
     let one : with_front front (repeated read (count - i) place) ≡ None = rw (more, fails) refl in
     sym so_far ∙ one

@@ -1,11 +1,12 @@
 -- What the readers of a thin file return, seen as the parts of a file, and that it is what the
 -- definitions of `Reading` give.
-use Rattle.std.specs.Prelude.{◌≡◌, ℕ, List, [], ◌∷◌, map, ◌==◌, if◌then◌else◌, Option, Some, None, Result, Ok, Err}
+use Rattle.std.specs.Prelude.{◌≡◌, ℕ, List, [], ◌∷◌, ◌==◌, if◌then◌else◌, Option, Some, None, Result, Ok, Err}
 use Rattle.std.specs.Option.{option_map}
 use Rattle.std.specs.Int.{w8, cast_signed}
 use Rattle.ms_pool.specs.Places.{Place}
 use Rattle.ms_classfile.specs.declared.thin.failure.Failure.{Failure}
 use Rattle.ms_classfile.specs.declared.thin.failure.Failure.TheVariants as failures
+use Rattle.ms_classfile.specs.declared.thin.failure.Refused.{Refused}
 use Rattle.ms_classfile.specs.declared.thin.parts.PoolEntry.{PoolEntry}
 use Rattle.ms_classfile.specs.declared.thin.parts.PoolEntry.TheVariants as entries
 use Rattle.ms_classfile.specs.declared.thin.parts.RawAttribute.{RawAttribute}
@@ -41,10 +42,15 @@ abbrev pub Leads : {X Y : Type 0} → (X → Y) → Result X Failure → Place �
 Leads seen (Ok x) place read = read ≡ Some (seen x, place)
 Leads seen (Err failure) place read = Fails failure read
 
+-- It is what is read, and the place is the one behind it. Such a read takes no memory.
+abbrev pub Finds : {X Y : Type 0} → (X → Y) → Result X Refused → Place → Option (Y × Place) → Type 0
+Finds seen (Ok x) place read = read ≡ Some (seen x, place)
+Finds seen (Err refused) place read = read ≡ None
+
 -- The place is the one behind what is read. Such a read takes no memory.
-abbrev pub Passes : Result Unit Failure → Place → Option Place → Type 0
+abbrev pub Passes : Result Unit Refused → Place → Option Place → Type 0
 Passes (Ok x) place read = read ≡ Some place
-Passes (Err failure) place read = Fails failure read
+Passes (Err refused) place read = read ≡ None
 
 -- the first instruction of these bytes, and the bytes after it
 abbrev pub first_instruction : List ℕ → Option (Instruction × List ℕ)

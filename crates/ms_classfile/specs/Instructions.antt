@@ -1,6 +1,6 @@
 -- The instructions of thin code: how they are spelled, and what they need of the operand stack
 -- (JVMS SE 8, section 6.5). Each takes some words off the stack and puts some on it.
-use Rattle.std.specs.Prelude.{ℕ, ◌+◌, ◌-◌, List, [], ◌∷◌, ℤ, pos, negsuc, ◌≤ℤ◌, ◌<◌, FitsSigned, Bool, true, false, ◌&&◌, ◌==◌, nat_lt}
+use Rattle.std.specs.Prelude.{ℕ, ◌+◌, ◌-◌, List, [], ◌∷◌, ℤ, pos, negsuc, ◌≤ℤ◌, ◌<◌, FitsSigned, Bool, false, ◌&&◌, ◌==◌, nat_lt}
 use Rattle.std.specs.Int.{w8, cast_unsigned}
 use Rattle.ms_classfile.specs.declared.instruction.Instruction.{Instruction}
 use Rattle.ms_classfile.specs.declared.instruction.Instruction.TheVariants.{Iload, Iconst, Bipush, Iadd, Isub, Ireturn}

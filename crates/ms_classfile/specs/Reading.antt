@@ -1,7 +1,7 @@
 -- How a thin file is read, part by part, from left to right. That what is read is what `ThinFile`
 -- says is a law, `thin_files_are_read`.
-use Rattle.std.specs.Prelude.{◌≡◌, ℕ, zero, suc, ◌+◌, ◌-◌, ◌≤◌, List, [], ◌∷◌, ◌++◌, length, Bool, true, false, not, ◌&&◌, ◌==◌, nat_lt, nat_le, if◌then◌else◌, Option, Some, None, is_some, is_none, map, filter, find, codes, pos, ◌-ℤ◌}
-use Rattle.std.specs.Option.{option_and_then, option_map}
+use Rattle.std.specs.Prelude.{ℕ, zero, suc, ◌-◌, List, [], ◌∷◌, length, Bool, true, false, ◌&&◌, ◌==◌, nat_lt, nat_le, if◌then◌else◌, Option, Some, None, is_some, is_none, filter, find, codes, pos, ◌-ℤ◌}
+use Rattle.std.specs.Option.{option_map}
 use Rattle.std.specs.Result.{result_ok}
 use Rattle.std.specs.List.{list_all}
 use Rattle.std.specs.Str.{bytes_eq}
@@ -12,7 +12,7 @@ use Rattle.ms_classfile.specs.declared.instruction.Instruction.{Instruction}
 use Rattle.ms_classfile.specs.declared.instruction.Instruction.TheVariants.{Iload, Iconst, Bipush, Iadd, Isub, Ireturn}
 use Rattle.ms_classfile.specs.declared.thin.parts.Limits.{Limits}
 use Rattle.ms_classfile.specs.Instructions.{is_walked}
-use Rattle.ms_classfile.specs.ThinFile.{Entry, Utf8, Class, Attribute, Method, utf8, class_name, is_linked, has_name, is_named, int_descriptor, is_plain_static, magic}
+use Rattle.ms_classfile.specs.ThinFile.{Entry, Utf8, Class, Attribute, Method, utf8, class_name, is_linked, is_named, int_descriptor, is_plain_static, magic}
 
 infixl 10 ◌>>=◌
 -- a read, and what is read after it

@@ -1,6 +1,6 @@
 -- Thin files: class files of one class with one static method over ints, whose code has no branch
 -- (JVMS SE 8, chapter 4).
-use Rattle.std.specs.Prelude.{◌≡◌, ℕ, ◌+◌, ◌-◌, ◌^◌, ◌<◌, ◌≤◌, List, [], ◌∷◌, ◌++◌, length, Bool, true, false, IsTrue, ◌==◌, if◌then◌else◌, Option, Some, None, IsSome, is_some, IsSomeAnd, map, slice_get, filter, replicate, codes, bit_and}
+use Rattle.std.specs.Prelude.{◌≡◌, ℕ, ◌+◌, ◌-◌, ◌^◌, ◌<◌, ◌≤◌, List, [], ◌∷◌, ◌++◌, length, Bool, true, false, IsTrue, ◌==◌, if◌then◌else◌, Option, Some, None, is_some, IsSomeAnd, map, slice_get, filter, replicate, codes, bit_and}
 use Rattle.std.specs.Option.{option_and_then}
 use Rattle.std.specs.List.{list_all, flat_map, AllByRecursion}
 use Rattle.std.specs.Str.{bytes_eq}

@@ -7,7 +7,10 @@ pub enum Instruction {
     Iconst(i32),
     /// Puts a word of -128 to 127 on the stack.
     Bipush(i32),
+    /// Takes two words and puts their sum, reduced to a word.
     Iadd,
+    /// Takes two words and puts the lower one less the upper one, reduced to a word.
     Isub,
+    /// Returns the word on the stack.
     Ireturn,
 }

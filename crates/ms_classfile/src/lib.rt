@@ -8,5 +8,3 @@ mod thin;
 pub use instruction::Instruction;
 pub use thin::{ThinMethod, read_thin, thin_files_are_read};
 
-#[cfg(test)]
-mod tests;

@@ -1,5 +1,5 @@
 -- Lines that bytes end, one piece of bytes after another.
-use Rattle.std.proofs.Common.{◌≡◌, ℕ, ◌+◌, ◌<◌, List, [], ◌∷◌, ◌++◌, length, take, drop, map, get_or, true, false, cond, refl, sym, ap, ◌∙◌, subst, arith, take-append-drop, ◌==◌, Bool}
+use Rattle.std.proofs.Common.{◌≡◌, ℕ, ◌+◌, ◌<◌, List, [], ◌∷◌, ◌++◌, length, take, drop, map, get_or, true, false, cond, refl, sym, ap, ◌∙◌, subst, take-append-drop, ◌==◌, Bool}
 use Rattle.std.proofs.lemmas.List.{take_more, map-append}
 use Rattle.std.specs.Str.Lines.{strip_carriage_return}
 use Rattle.ms_memoise.specs.declared.status.Status.{Status}

@@ -1,6 +1,6 @@
 -- Lines that are done one after another.
-use Rattle.std.proofs.Common.{◌≡◌, ℕ, zero, suc, ◌+◌, ◌<◌, ◌≤◌, List, [], ◌∷◌, ◌++◌, length, take, map, refl, sym, ap, ◌∙◌, subst, arith, Some, slice_get, append_assoc, append-nil, length-append, suc-add}
-use Rattle.std.specs.List.{AllByRecursion, flat_map}
+use Rattle.std.proofs.Common.{◌≡◌, ℕ, zero, suc, ◌+◌, ◌≤◌, List, [], ◌∷◌, ◌++◌, length, take, refl, sym, ap, ◌∙◌, subst, arith, Some, slice_get, append_assoc, append-nil, length-append, suc-add}
+use Rattle.std.specs.List.{AllByRecursion}
 use Rattle.std.specs.Io.KnownBytes.{Appends}
 use Rattle.std.proofs.lemmas.List.{take-append-le, length-take}
 use Rattle.std.proofs.Math.Seq.{take-append-add}
@@ -11,9 +11,9 @@ use Rattle.ms_outside.specs.Counts.{Rose}
 use Rattle.ms_outside.specs.Sinks.{TakesPart}
 use Rattle.ms_command.specs.Commands.{command_of}
 use Rattle.ms_memoise.specs.Events.{Event, IsAnswered, ShelfSide, lines_of, text_of, texts_of}
-use Rattle.ms_memoise.specs.Conversations.{Begun, SinkSide}
-use Rattle.ms_memoise.specs.Feeding.{Broke, Did, Hindered, Hinders, IsPartAt, Passes, Prepared, ShelfPasses, Stops}
-use Rattle.ms_memoise.proofs.Spans.{answers_wider, counts_same, events_wider, passes_later, rose_wider, shelf_same}
+use Rattle.ms_memoise.specs.Conversations.{SinkSide}
+use Rattle.ms_memoise.specs.Feeding.{Broke, Did, Hindered, Hinders, IsPartAt, Passes, Prepared, Stops}
+use Rattle.ms_memoise.proofs.Spans.{answers_wider, events_wider, passes_later, rose_wider, shelf_same}
 
 pub did_nothing : (a : ShelfSide) (s : SinkSide) → Did [] a a s s
 did_nothing a s = record {
@@ -113,12 +113,12 @@ broke_writing line text piece a b s t p is wrote grows rose =
       passes = record { on_shelf = p.passes; writes = grows };
     }
 
-length_lines : (events : List Event) → length (lines_of events) ≡ length events
+pub length_lines : (events : List Event) → length (lines_of events) ≡ length events
 length_lines [] = refl
 length_lines (event ∷ events) = ap suc (length_lines events)
 
 -- what is at a place of a list is there whatever follows
-get_before : (xs ys : List (List ℕ)) (n : ℕ) (line : List ℕ) → slice_get xs n ≡ Some line → slice_get (xs ++ ys) n ≡ Some line
+pub get_before : (xs ys : List (List ℕ)) (n : ℕ) (line : List ℕ) → slice_get xs n ≡ Some line → slice_get (xs ++ ys) n ≡ Some line
 get_before [] ys n line is = cc
 get_before (x ∷ xs) ys zero line is = is
 get_before (x ∷ xs) ys (suc n) line is = get_before xs ys n line is
@@ -127,7 +127,7 @@ get_behind : (xs ys : List (List ℕ)) (n : ℕ) → slice_get (xs ++ ys) (lengt
 get_behind [] ys n = ap (slice_get ys) (omega arith)
 get_behind (x ∷ xs) ys n = rw suc-add (get_behind xs ys n)
 
-no_more : (events : List Event) (xs : List (List ℕ)) → lines_of events ≡ take (length events) xs → length events ≤ length xs
+pub no_more : (events : List Event) (xs : List (List ℕ)) → lines_of events ≡ take (length events) xs → length events ≤ length xs
 no_more events xs lines = omega (arith, length_lines events, ap length lines, length-take (length events) xs)
 
 stops_wider : (status : Status) (a b c : ShelfSide) (s t u : SinkSide) → Passes a b s t → Stops status b c t u → Stops status a c s u

@@ -1,15 +1,13 @@
 -- When the text for a command is ready.
-use Rattle.std.proofs.Common.{◌≡◌, ℕ, ◌≤◌, List, [], ◌∷◌, length, map, refl, sym, ap, ◌∙◌, subst, Option, Some, None, IfSome, ℤ}
-use Rattle.std.specs.List.{AllByRecursion}
-use Rattle.ms_outside.specs.Counts.{CountsGrow, ShelfCounts}
-use Rattle.ms_outside.specs.Shelves as shelves
+use Rattle.std.proofs.Common.{◌≡◌, ℕ, List, [], ◌∷◌, map, refl, sym, ap, subst, Option, Some, None, IfSome, ℤ}
+use Rattle.ms_outside.specs.Counts.{CountsGrow}
 use Rattle.ms_outside.specs.Shelves.{Answer, File, IsWithinLimit, answer_of}
 use Rattle.ms_command.specs.declared.command.Command.TheVariants.{Once}
 use Rattle.ms_command.specs.Texts.{reply_text}
 use Rattle.ms_memoise.specs.declared.status.Status.{Status}
 use Rattle.ms_memoise.specs.declared.status.Status.TheVariants.{NoMemory}
 use Rattle.ms_memoise.specs.Replies.{once_reply}
-use Rattle.ms_memoise.specs.Events.{AreAnswers, HasCauseFor, ShelfSide}
+use Rattle.ms_memoise.specs.Events.{HasCauseFor, ShelfSide}
 use Rattle.ms_memoise.specs.Feeding.{Hindered, Prepared, ShelfPasses}
 
 -- one answer that a fetch of a file of this name brought

@@ -1,5 +1,5 @@
 -- What holds between two moments holds between an earlier and a later one.
-use Rattle.std.proofs.Common.{◌≡◌, ℕ, ◌≤◌, List, [], ◌∷◌, ◌++◌, length, map, refl, sym, ap, ◌∙◌, subst, arith, Some, None, IfSome}
+use Rattle.std.proofs.Common.{◌≡◌, ℕ, ◌≤◌, List, [], ◌∷◌, map, refl, ◌∙◌, subst, arith, IfSome}
 use Rattle.std.specs.List.{AllByRecursion}
 use Rattle.ms_outside.specs.Counts.{CountsGrow, ShelfCounts, Rose}
 use Rattle.ms_outside.specs.Shelves as shelves

@@ -1,5 +1,5 @@
 -- Conversations: what the program has read, done and written when it ends.
-use Rattle.std.specs.Prelude.{◌≡◌, ℕ, ◌+◌, ◌<◌, ◌≤◌, List, [], ◌++◌, length, take, Option, Some, None, IfSome, slice_get}
+use Rattle.std.specs.Prelude.{◌≡◌, ℕ, ◌+◌, ◌<◌, ◌≤◌, ◌⊎◌, List, [], ◌++◌, length, take, Option, Some, IfSome, slice_get}
 use Rattle.std.specs.List.{AllByRecursion}
 use Rattle.std.specs.Str.Lines.{lines}
 use Rattle.std.specs.Io.KnownBytes.{Appends, Consumes, IsAtEnd}
@@ -85,3 +85,12 @@ pub record Conversation (limit : ℕ) (before now : Outside) (status : Status) :
   pub done : HasDone limit status bytes (lines_of events) part
   pub cause : HasCauseOf limit status before now
   pub elapses : Elapses before now
+
+-- a count of faults rose
+abbrev pub HasRisen : Outside → Outside → Type 0
+HasRisen before now =
+    Rose before.source.faults now.source.faults ⊎ (Rose before.sink.faults now.sink.faults ⊎ Rose before.shelf.counts.faults now.shelf.counts.faults)
+
+-- the run was done, or memory ran out, or else a count of faults rose
+abbrev pub EndsWell : Status → Outside → Outside → Type 0
+EndsWell status before now = (status ≡ Done) ⊎ ((status ≡ NoMemory) ⊎ HasRisen before now)

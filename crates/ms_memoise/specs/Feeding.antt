@@ -9,7 +9,7 @@ use Rattle.ms_memoise.specs.declared.status.Status.{Status}
 use Rattle.ms_memoise.specs.declared.status.Status.TheVariants.{Done, Usage, ReadFault, WriteFault, NoMemory, ShelfFault, TooMuchInput}
 use Rattle.ms_outside.specs.Shelves.{Answer}
 use Rattle.ms_command.specs.declared.command.Command.{Command}
-use Rattle.ms_memoise.specs.Events.{AreAnswers, Event, IsAnswered, ShelfSide, lines_of, names_in, text_for, text_of, texts_of}
+use Rattle.ms_memoise.specs.Events.{AreAnswers, Event, IsAnswered, ShelfSide, lines_of, names_in, text_for, texts_of}
 use Rattle.ms_memoise.specs.Conversations.{Begun, SinkSide}
 
 -- the most bytes that are kept of a line

@@ -1,6 +1,6 @@
 -- Lines of a stream of bytes. All of them are std's `lines`: the parts ended by a line feed, less a
 -- carriage return before it, and then what follows the last line feed, where it isn't empty.
-use Rattle.std.specs.Prelude.{ℕ, ◌-◌, List, [], ◌∷◌, length, take, map, Bool, ◌==◌}
+use Rattle.std.specs.Prelude.{ℕ, ◌-◌, List, length, take, map, Bool, ◌==◌}
 use Rattle.std.specs.List.{slice_split}
 use Rattle.std.specs.Str.Lines.{strip_carriage_return}
 

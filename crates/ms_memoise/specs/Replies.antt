@@ -1,13 +1,11 @@
 -- The reply to a command, by what the shelf answered.
-use Rattle.std.specs.Prelude.{ℕ, ◌^◌, List, [], ◌∷◌, length, ℤ, pos, negsuc, Bool, ◌&&◌, ◌==◌, nat_lt, if◌then◌else◌, Option, Some, None}
+use Rattle.std.specs.Prelude.{ℕ, ◌^◌, List, [], length, ℤ, pos, negsuc, Bool, ◌&&◌, ◌==◌, nat_lt, if◌then◌else◌, Option, Some, None}
 use Rattle.std.specs.List.{list_all}
 use Rattle.std.specs.Str.{bytes_eq}
 use Rattle.ms_outside.specs.Shelves as shelves
-use Rattle.ms_command.specs.declared.command.Command.{Command}
-use Rattle.ms_command.specs.declared.command.Command.TheVariants.{Nothing, Once}
 use Rattle.ms_command.specs.declared.reply.Reply.{Reply}
 use Rattle.ms_command.specs.declared.reply.Reply.TheVariants as replies
-use Rattle.ms_command.specs.Texts.{reply_text, returned_text}
+use Rattle.ms_command.specs.Texts.{returned_text}
 use Rattle.ms_classfile.specs.ThinFile.{Method}
 use Rattle.ms_classfile.specs.Reading.{thin_method}
 use Rattle.ms_jvm.specs.Runs.{returned}

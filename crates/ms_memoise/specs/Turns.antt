@@ -3,7 +3,7 @@ use Rattle.std.specs.Prelude.{◌≡◌, ℕ, ◌≤◌, List, [], ◌∷◌, le
 use Rattle.std.specs.Io.KnownBytes.{Consumes, IsAtEnd}
 use Rattle.ms_outside.specs.Counts.{Rose}
 use Rattle.ms_memoise.specs.declared.status.Status.{Status}
-use Rattle.ms_memoise.specs.declared.status.Status.TheVariants.{Done, Usage, ReadFault, WriteFault, NoMemory, ShelfFault, TooMuchInput}
+use Rattle.ms_memoise.specs.declared.status.Status.TheVariants.{Done, ReadFault, TooMuchInput}
 use Rattle.ms_memoise.specs.Events.{ShelfSide}
 use Rattle.ms_memoise.specs.Conversations.{Outside, SinkSide}
 use Rattle.ms_memoise.specs.Feeding.{Broke, Did, ended_lines, fed_kept}

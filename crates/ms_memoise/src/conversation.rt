@@ -1,4 +1,4 @@
-ghost use Rattle.std.specs.Prelude.{ℕ, ◌<◌, MatchResult};
+ghost use Rattle.std.specs.Prelude.{◌≢◌, ◌<◌, MatchResult};
 ghost use Rattle.ms_memoise.specs.Conversations.{Conversation, outside, sink_side};
 ghost use Rattle.ms_memoise.specs.Events.{shelf_side};
 ghost use Rattle.ms_memoise.specs.Turns.{AtLimit, Finishes, TurnBroke, Turned, last_lines};
@@ -20,10 +20,11 @@ pub fn converse<S: Source, F: Shelf, K: Sink>(
     shelf: &mut F,
     sink: &mut K,
 ) -> Status
-    ensures { Conversation limit
+    ensures conversation { Conversation limit
         (outside (S.left source.old) (S.faults source.old) (shelf_side (F.files shelf.old) (F.counts shelf.old)) (K.taken sink.old) (K.faults sink.old))
         (outside (S.left source.new) (S.faults source.new) (shelf_side (F.files shelf.new) (F.counts shelf.new)) (K.taken sink.new) (K.faults sink.new))
         result }
+    ensures words { result ≢ Status.Usage }
 {
     let mut line = Vec::new(alloc);
     let mut left = limit;

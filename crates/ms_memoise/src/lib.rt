@@ -8,7 +8,9 @@ mod conversation;
 mod feed;
 mod program;
 mod status;
+mod sure;
 
 pub use conversation::converse;
 pub use program::{MOST_INPUT, memoise};
 pub use status::Status;
+pub use sure::memoise_sure;

@@ -1,6 +1,7 @@
-ghost use Rattle.std.specs.Prelude.{◌≡◌, ◌↔◌, ◌≢◌, [], IfSome};
+ghost use Rattle.std.specs.Prelude.{◌≡◌, ◌<◌, ◌≤◌, ◌↔◌, ◌≢◌, [], length, IfSome, IsSomeAnd};
 ghost use Rattle.std.specs.Io.KnownBytes.{Appends, IsAtEnd};
-ghost use Rattle.ms_memoise.specs.Conversations.{Conversation, outside};
+ghost use Rattle.ms_outside.specs.Counts.{Rose};
+ghost use Rattle.ms_memoise.specs.Conversations.{Conversation, EndsWell, outside};
 ghost use Rattle.ms_memoise.specs.Events.{replies, shelf_side};
 
 use crate::conversation::converse;
@@ -29,13 +30,26 @@ pub fn memoise<S: Source, F: Shelf, K: Sink>(
     // Words on the command line, and nothing else, are refused.
     ensures usage { (result ≡ Status.Usage) ↔ (words.now ≢ []) }
 
-    // Where the devices tell what they hold, the sink took the replies to the lines of the input.
+    // Where the source and the shelf tell what they hold, the sink took the replies to the lines of
+    // the input, and the source was read to its end.
     ensures replies { result ≡ Status.Done →
         IfSome (S.left source.old) (λ input. IfSome (F.files shelf.old) (λ files.
         Appends (K.taken sink.old) (K.taken sink.new) (replies files input))) }
-
-    // The source was then read to its end.
     ensures end { result ≡ Status.Done → IsAtEnd (S.left source.new) }
+
+    // A fault has its cause: the count of that object rose.
+    ensures read_fault { result ≡ Status.ReadFault → Rose (S.faults source.old) (S.faults source.new) }
+    ensures write_fault { result ≡ Status.WriteFault → Rose (K.faults sink.old) (K.faults sink.new) }
+    ensures shelf_fault { result ≡ Status.ShelfFault → Rose (F.counts shelf.old).faults (F.counts shelf.new).faults }
+
+    // Too many bytes are those above the limit.
+    ensures too_much { result ≡ Status.TooMuchInput → IfSome (S.left source.old) (λ input. 4294967295 < length input) }
+    ensures enough { result ≡ Status.Done → IfSome (S.left source.old) (λ input. length input ≤ 4294967295) }
+
+    // With no words and an input within the limit it is done, unless memory ran out or a count rose.
+    ensures complete { words.now ≡ [] → IsSomeAnd (S.left source.old) (λ input. length input ≤ 4294967295) → EndsWell result
+        (outside (S.left source.old) (S.faults source.old) (shelf_side (F.files shelf.old) (F.counts shelf.old)) (K.taken sink.old) (K.faults sink.old))
+        (outside (S.left source.new) (S.faults source.new) (shelf_side (F.files shelf.new) (F.counts shelf.new)) (K.taken sink.new) (K.faults sink.new)) }
 {
     if !words.is_empty() {
         return Status::Usage;

@@ -2,9 +2,9 @@ ghost use Rattle.std.specs.Prelude.{◌≡◌, map, filter, codes};
 ghost use Rattle.std.specs.Option.{option_map};
 ghost use Rattle.ms_classfile.specs.ThinFile.{is_named};
 ghost use Rattle.ms_classfile.specs.Reading.{attribute_at, attributes_at, repeated, only};
-ghost use Rattle.ms_classfile.specs.Found.{Leads, entry_view, attribute_view};
+ghost use Rattle.ms_classfile.specs.Found.{Finds, Leads, entry_view, attribute_view};
 
-use super::failure::Failure;
+use super::failure::{Failure, Refused};
 use super::parts::{PoolEntry, RawAttribute};
 use super::pool::utf8;
 use ms_pool::Cursor;
@@ -14,14 +14,14 @@ use std::alloc::Global;
 fn attribute<'a>(
     pool: &[PoolEntry<'a>],
     cursor: &mut Cursor<'a>,
-) -> Result<RawAttribute<'a>, Failure>
-    ensures { Leads attribute_view result cursor.new (attribute_at (map entry_view pool.now) cursor.old) }
+) -> Result<RawAttribute<'a>, Refused>
+    ensures { Finds attribute_view result cursor.new (attribute_at (map entry_view pool.now) cursor.old) }
 {
     let name = cursor.u2()?;
     let size = cursor.u4()?;
     let content = cursor.slice(size)?;
     if utf8(pool, name).is_none() {
-        return Err(Failure::NotThin);
+        return Err(Refused);
     }
     Ok(RawAttribute { name, content })
 }

@@ -4,11 +4,11 @@ ghost use Rattle.ms_pool.specs.Places.{beginning};
 ghost use Rattle.ms_classfile.specs.Instructions as walking;
 ghost use Rattle.ms_classfile.specs.Reading.{instructions_of, limits_at, code_of};
 ghost use Rattle.ms_classfile.specs.Reading as reading;
-ghost use Rattle.ms_classfile.specs.Found.{Gives, Leads, Passes, entry_view};
+ghost use Rattle.ms_classfile.specs.Found.{Finds, Gives, entry_view};
 ghost use Rattle.ms_classfile.specs.Found as found;
 
 use super::attributes::attributes;
-use super::failure::Failure;
+use super::failure::{Failure, Refused};
 use super::parts::{Limits, PoolEntry};
 use crate::Instruction;
 use ms_pool::Cursor;
@@ -92,8 +92,8 @@ fn is_walked(parameters: usize, most: usize, code: &[Instruction]) -> bool
 }
 
 #[tactic(auto, unfolding(crate::specs::Reading::limits_at))]
-fn limits(cursor: &mut Cursor<'_>) -> Result<Limits, Failure>
-    ensures { Leads (λ limits. limits) result cursor.new (limits_at cursor.old) }
+fn limits(cursor: &mut Cursor<'_>) -> Result<Limits, Refused>
+    ensures { Finds (λ limits. limits) result cursor.new (limits_at cursor.old) }
 {
     let max_stack = cursor.u2()?;
     let max_locals = cursor.u2()?;
@@ -117,7 +117,7 @@ fn rest_is_plain<'a>(
     pool: &[PoolEntry<'a>],
     cursor: &mut Cursor<'a>,
 ) -> Result<(), Failure>
-    ensures { Passes result cursor.new (reading.rest_is_plain (map entry_view pool.now) cursor.old) }
+    ensures { Gives (λ done. cursor.new) result (reading.rest_is_plain (map entry_view pool.now) cursor.old) }
 {
     let handlers = cursor.u2()?;
     if handlers != 0 {

@@ -4,11 +4,29 @@ ghost use Rattle.ms_classfile.specs.declared.thin.failure.Failure.TheVariants.{N
 use ms_pool::Short;
 use std::alloc::{AllocError, AllocFailed};
 
+/// What is read is not what a thin file has there. A reader that takes no memory fails so alone.
+#[derive(Clone, Copy, Debug, PartialEq, Eq)]
+pub struct Refused;
+
+impl From<Short> for Refused {
+    fn from(_short: Short) -> Refused {
+        Refused
+    }
+}
+
 /// Why no method is read: the bytes are not a thin file, or memory ran out.
 #[derive(Clone, Copy, Debug, PartialEq, Eq)]
 pub enum Failure {
     NotThin,
     NoMemory,
+}
+
+impl From<Refused> for Failure {
+    ghost from_gives = { λ _ failure. failure ≡ NotThin };
+
+    fn from(_refused: Refused) -> Failure {
+        Failure::NotThin
+    }
 }
 
 impl From<Short> for Failure {

@@ -3,16 +3,16 @@ ghost use Rattle.std.specs.List.{list_all};
 ghost use Rattle.std.specs.Option.{option_map};
 ghost use Rattle.ms_classfile.specs.ThinFile as thin;
 ghost use Rattle.ms_classfile.specs.Reading.{text_at, class_at, entry_at, pool_at, repeated};
-ghost use Rattle.ms_classfile.specs.Found.{Leads, entry_view};
+ghost use Rattle.ms_classfile.specs.Found.{Finds, Leads, entry_view};
 
-use super::failure::Failure;
+use super::failure::{Failure, Refused};
 use super::parts::PoolEntry;
 use ms_pool::Cursor;
 use std::alloc::Global;
 
 #[tactic(auto, unfolding(crate::specs::Reading::text_at))]
-fn text<'a>(cursor: &mut Cursor<'a>) -> Result<PoolEntry<'a>, Failure>
-    ensures { Leads entry_view result cursor.new (text_at cursor.old) }
+fn text<'a>(cursor: &mut Cursor<'a>) -> Result<PoolEntry<'a>, Refused>
+    ensures { Finds entry_view result cursor.new (text_at cursor.old) }
 {
     let size = cursor.u2()?;
     let text = cursor.slice(u32::from(size))?;
@@ -20,16 +20,16 @@ fn text<'a>(cursor: &mut Cursor<'a>) -> Result<PoolEntry<'a>, Failure>
 }
 
 #[tactic(auto, unfolding(crate::specs::Reading::class_at))]
-fn class<'a>(cursor: &mut Cursor<'a>) -> Result<PoolEntry<'a>, Failure>
-    ensures { Leads entry_view result cursor.new (class_at cursor.old) }
+fn class<'a>(cursor: &mut Cursor<'a>) -> Result<PoolEntry<'a>, Refused>
+    ensures { Finds entry_view result cursor.new (class_at cursor.old) }
 {
     let name = cursor.u2()?;
     Ok(PoolEntry::Class(name))
 }
 
 #[tactic(auto, unfolding(crate::specs::Reading::entry_at))]
-fn entry<'a>(cursor: &mut Cursor<'a>) -> Result<PoolEntry<'a>, Failure>
-    ensures { Leads entry_view result cursor.new (entry_at cursor.old) }
+fn entry<'a>(cursor: &mut Cursor<'a>) -> Result<PoolEntry<'a>, Refused>
+    ensures { Finds entry_view result cursor.new (entry_at cursor.old) }
 {
     let tag = cursor.u1()?;
     if tag == 1 {
@@ -37,7 +37,7 @@ fn entry<'a>(cursor: &mut Cursor<'a>) -> Result<PoolEntry<'a>, Failure>
     } else if tag == 7 {
         class(cursor)
     } else {
-        Err(Failure::NotThin)
+        Err(Refused)
     }
 }
 

@@ -1,8 +1,6 @@
-use Rattle.std.proofs.Common.{◌≡◌, length, take, refl}
+use Rattle.std.proofs.Common.{◌≡◌, take, refl}
 use Rattle.std.proofs.lemmas.List.{take_all}
 use Rattle.std.proofs.lemmas.Result.{err_from_is_err_and}
-use Rattle.ms_memoise.specs.Events.{shelf_side}
-use Rattle.ms_memoise.specs.Conversations.{sink_side}
 use Rattle.ms_memoise.proofs.Handling.{did_nothing}
 use Rattle.ms_memoise.proofs.Fed.{broke_one_more, did_one_more, kept_one_more}
 use Rattle.ms_memoise.proofs.feed.feed.Goals as goal

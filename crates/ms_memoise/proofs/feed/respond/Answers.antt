@@ -1,6 +1,5 @@
 use Rattle.std.proofs.lemmas.Result.{err_from_is_err_and}
 use Rattle.ms_memoise.specs.Conversations.{sink_side}
-use Rattle.ms_memoise.specs.Events.{shelf_side}
 use Rattle.ms_memoise.proofs.Handling.{broke_hindered, broke_writing, did_one}
 use Rattle.ms_memoise.proofs.feed.respond.Goals as goal
 

@@ -9,7 +9,7 @@ use Rattle.ms_classfile.proofs.thin.attributes.counted.Goals as goal
 pub returns-in_err-found : goal.returns-in_err-found
 returns-in_err-found c =
     let p = err_from_is_err_and c.from_residual.result c.from_residual.ensures.1 in
-    rw (p.1, p.2) (ends c.in_err-found.field-0.0 (attribute_at (map entry_view c.args.pool.now)) (map attribute_view c.loop.attributes.items) c.args.count c.loop.counter c.loop.cursor (repeated (attribute_at (map entry_view c.args.pool.now)) c.args.count c.args.cursor.now) c.loop-test.true c.in_err-found.ensures c.loop.invariant)
+    rw (p.1, p.2) (ends (attribute_at (map entry_view c.args.pool.now)) (map attribute_view c.loop.attributes.items) c.args.count c.loop.counter c.loop.cursor (repeated (attribute_at (map entry_view c.args.pool.now)) c.args.count c.args.cursor.now) c.loop-test.true c.in_err-found.ensures c.loop.invariant)
 
 pub loop-preserved : goal.loop-preserved
 loop-preserved c =

@@ -1,0 +1,151 @@
+-- Lines that are the same command. What is kept of a line is the same command as the line.
+use Rattle.std.proofs.Common.{◌≡◌, ℕ, zero, suc, ◌+◌, ◌-◌, ◌<◌, ◌≤◌, List, [], ◌∷◌, ◌++◌, length, take, map, ◌==◌, refl, sym, ap, ◌∙◌, subst, subst₂, arith, inl, inr, Some, None, slice_get, slice_index}
+use Rattle.std.proofs.lemmas.List.{take_all, length-take}
+use Rattle.std.proofs.lemmas.Bool.{cases_lt, cond_both, cond-false, lt-leb, ne_eqb, and_left}
+use Rattle.std.specs.List.{AllByRecursion}
+use Rattle.std.specs.Str.Lines.{strip_carriage_return}
+use Rattle.std.specs.Io.KnownBytes.{Appends}
+use Rattle.ms_command.specs.Commands.{command_of}
+use Rattle.ms_command.specs.Lines.{most_line_bytes}
+use Rattle.ms_memoise.specs.declared.status.Status.{Status}
+use Rattle.ms_memoise.specs.Events.{AreAnswers, Event, IsAnswered, ShelfSide, lines_of, names_in, text_for, text_of, texts_of}
+use Rattle.ms_memoise.specs.Conversations.{Begun, SinkSide}
+use Rattle.ms_memoise.specs.Feeding.{Broke, Did, most_kept}
+use Rattle.ms_memoise.specs.Turns.{last_lines}
+use Rattle.ms_memoise.proofs.Scanning.{cut}
+
+-- a line that is too long is no command
+no_command : (line : List ℕ) → most_line_bytes < length line → command_of line ≡ None
+no_command line long = cond-false _ _ _ (and_left _ _ (lt-leb (length line) most_line_bytes long))
+
+-- less a carriage return, a line is at most one byte shorter
+length_stripped : (line : List ℕ) → length line ≤ length (strip_carriage_return line) + 1
+length_stripped line = cond_both (slice_index line (length line - 1) == 13) (take (length line - 1) line) line (λ l. length line ≤ length l + 1) (λ h. omega (arith, length-take (length line - 1) line)) (λ h. omega arith)
+
+pub stripped_command : (line : List ℕ) → command_of (strip_carriage_return (cut line)) ≡ command_of (strip_carriage_return line)
+stripped_command line = elim (cases_lt most_kept (length line)) [
+  | inl long ↦
+      no_command (strip_carriage_return (cut line)) (omega (arith, length_stripped (cut line), length-take most_kept line))
+      ∙ sym (no_command (strip_carriage_return line) (omega (arith, length_stripped line)))
+  | inr short ↦ ap (λ l. command_of (strip_carriage_return l)) (take_all most_kept line short)
+]
+
+pub cut_command : (line : List ℕ) → command_of (cut line) ≡ command_of line
+cut_command line = elim (cases_lt most_kept (length line)) [
+  | inl long ↦ no_command (cut line) (omega (arith, length-take most_kept line)) ∙ sym (no_command line (omega arith))
+  | inr short ↦ ap command_of (take_all most_kept line short)
+]
+
+-- the same commands, line by line
+abbrev pub Alike : List (List ℕ) → List (List ℕ) → Type 0
+Alike [] [] = Unit {0}
+Alike [] (y ∷ ys) = ⊥
+Alike (x ∷ xs) [] = ⊥
+Alike (x ∷ xs) (y ∷ ys) = (command_of x ≡ command_of y) × Alike xs ys
+
+pub alike_stripped : (lines : List (List ℕ)) → Alike (map strip_carriage_return (map cut lines)) (map strip_carriage_return lines)
+alike_stripped [] = tt
+alike_stripped (line ∷ lines) = (stripped_command line, alike_stripped lines)
+
+pub alike_append : (xs ys us vs : List (List ℕ)) → Alike xs ys → Alike us vs → Alike (xs ++ us) (ys ++ vs)
+alike_append [] [] us vs p q = q
+alike_append [] (y ∷ ys) us vs p q = absurd p
+alike_append (x ∷ xs) [] us vs p q = absurd p
+alike_append (x ∷ xs) (y ∷ ys) us vs p q = (p.0, alike_append xs ys us vs p.1 q)
+
+last_some : (line : List ℕ) → 0 < length line → last_lines line ≡ line ∷ []
+last_some line some = cond-false _ _ _ (ne_eqb (length line) 0 (λ h. omega arith))
+
+pub alike_last : (line : List ℕ) → Alike (last_lines (cut line)) (last_lines line)
+alike_last [] = tt
+alike_last (byte ∷ bytes) =
+    let some : Alike (cut (byte ∷ bytes) ∷ []) ((byte ∷ bytes) ∷ []) = (cut_command (byte ∷ bytes), tt) in
+    subst₂ Alike (sym (last_some (cut (byte ∷ bytes)) (omega (arith, length-take most_kept (byte ∷ bytes))))) (sym (last_some (byte ∷ bytes) (omega arith))) some
+
+alike_take : (n : ℕ) (xs ys : List (List ℕ)) → Alike xs ys → Alike (take n xs) (take n ys)
+alike_take zero xs ys p = tt
+alike_take (suc n) [] [] p = tt
+alike_take (suc n) [] (y ∷ ys) p = absurd p
+alike_take (suc n) (x ∷ xs) [] p = absurd p
+alike_take (suc n) (x ∷ xs) (y ∷ ys) p = (p.0, alike_take n xs ys p.1)
+
+-- what stands at a place of the other list
+pub record Other (ys : List (List ℕ)) (n : ℕ) (line : List ℕ) : Type 0 where
+  pub other : List ℕ
+  pub there : slice_get ys n ≡ Some other
+  pub same : command_of line ≡ command_of other
+
+alike_at : (xs ys : List (List ℕ)) (n : ℕ) (line : List ℕ) → Alike xs ys → slice_get xs n ≡ Some line → Other ys n line
+alike_at [] [] n line p is = absurd (cc)
+alike_at [] (y ∷ ys) n line p is = absurd p
+alike_at (x ∷ xs) [] n line p is = absurd p
+alike_at (x ∷ xs) (y ∷ ys) zero line p is =
+    let same : x ≡ line = cc in
+    record { other = y; there = refl; same = ap command_of (sym same) ∙ p.0 }
+alike_at (x ∷ xs) (y ∷ ys) (suc n) line p is = let found = alike_at xs ys n line p.1 is in record { other = found.other; there = found.there; same = found.same }
+
+-- EVENTS OF THE OTHER LINES
+
+abbrev pub with_line : List ℕ → Event → Event
+with_line line event = record { line = line; answers = event.answers }
+
+pub record Relabelled (a b : ShelfSide) (events : List Event) (ys : List (List ℕ)) : Type 0 where
+  pub others : List Event
+  pub lines : lines_of others ≡ ys
+  pub many : length others ≡ length events
+  pub texts : texts_of others ≡ texts_of events
+  pub answered : AllByRecursion (IsAnswered a b) others
+
+answered_so : (a b : ShelfSide) (event : Event) (line : List ℕ) → command_of event.line ≡ command_of line → IsAnswered a b event → IsAnswered a b (with_line line event)
+answered_so a b event line same are = subst (λ command. AreAnswers a b (names_in command) event.answers) same are
+
+pub relabelled : (a b : ShelfSide) (events : List Event) (ys : List (List ℕ)) → Alike (lines_of events) ys → AllByRecursion (IsAnswered a b) events → Relabelled a b events ys
+relabelled a b [] [] p are = record { others = []; lines = refl; many = refl; texts = refl; answered = tt }
+relabelled a b [] (y ∷ ys) p are = absurd p
+relabelled a b (event ∷ events) [] p are = absurd p
+relabelled a b (event ∷ events) (y ∷ ys) p are =
+    let rest = relabelled a b events ys p.1 are.1 in
+    record {
+      others = with_line y event ∷ rest.others;
+      lines = ap (λ l. y ∷ l) rest.lines;
+      many = ap suc rest.many;
+      texts = ap (λ command. text_for command event.answers ++ texts_of rest.others) (sym p.0) ∙ ap (λ l. text_of event ++ l) rest.texts;
+      answered = (answered_so a b event y p.0 are.0, rest.answered);
+    }
+
+pub did_alike : (xs ys : List (List ℕ)) (a b : ShelfSide) (s t : SinkSide) → Alike xs ys → Did xs a b s t → Did ys a b s t
+did_alike xs ys a b s t alike p =
+    let found = relabelled a b p.events ys (subst (λ l. Alike l ys) (sym p.lines) alike) p.answered in
+    record {
+      events = found.others;
+      lines = found.lines;
+      answered = found.answered;
+      wrote = subst (Appends s.taken t.taken) (sym found.texts) p.wrote;
+      passes = p.passes;
+    }
+
+begun_alike : (xs ys : List (List ℕ)) (a b : ShelfSide) (n : ℕ) (part : List ℕ) → Alike xs ys → Begun a b xs n part → Begun a b ys n part
+begun_alike xs ys a b n part alike p =
+    let found = alike_at xs ys n p.event.line alike p.line in
+    record {
+      event = with_line found.other p.event;
+      line = found.there;
+      answered = answered_so a b p.event found.other found.same p.answered;
+      begins = ap (λ command. take (length part) (text_for command p.event.answers)) (sym found.same) ∙ p.begins;
+    }
+
+pub broke_alike : (status : Status) (xs ys : List (List ℕ)) (a b : ShelfSide) (s t : SinkSide) → Alike xs ys → Broke status xs a b s t → Broke status ys a b s t
+broke_alike status xs ys a b s t alike p =
+    let n = length p.events in
+    let found = relabelled a b p.events (take n ys) (subst (λ l. Alike l (take n ys)) (sym p.lines) (alike_take n xs ys alike)) p.answered in
+    record {
+      events = found.others;
+      part = p.part;
+      lines = found.lines ∙ ap (λ m. take m ys) (sym found.many);
+      begun = λ h. subst (λ m. Begun a b ys m p.part) (sym found.many) (begun_alike xs ys a b n p.part alike (p.begun h));
+      answered = found.answered;
+      wrote = subst (λ l. Appends s.taken t.taken (l ++ p.part)) (sym found.texts) p.wrote;
+      stops = p.stops;
+      at_status = p.at_status;
+      passes = p.passes;
+    }

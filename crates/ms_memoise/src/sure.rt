@@ -1,0 +1,23 @@
+ghost use Rattle.std.specs.Prelude.{◌≡◌, ◌≤◌, ◌⊎◌, ◌++◌, length};
+ghost use Rattle.ms_memoise.specs.Events.{replies};
+
+use crate::program::memoise;
+use crate::status::Status;
+use ms_outside::{SureShelf, SureSink, SureSource};
+use std::alloc::Global;
+
+/// The program over an outside that never fails, with an input of at most 4,294,967,295 bytes: unless
+/// memory runs out, it is done.
+pub fn memoise_sure(
+    alloc: Global,
+    source: &mut SureSource,
+    shelf: &mut SureShelf,
+    sink: &mut SureSink,
+) -> Status
+    requires { length source.old ≤ 4294967295 }
+    ensures done { (result ≡ Status.Done) ⊎ (result ≡ Status.NoMemory) }
+    // All of it was read, and the replies to its lines were written.
+    ensures replies { result ≡ Status.Done → sink.new ≡ sink.old ++ replies shelf.old.files source.old }
+{
+    memoise(alloc, &[], source, shelf, sink)
+}
