@@ -163,7 +163,8 @@ fn check_words(rt: &(impl Abort + AllocGlobal), words: &[String]) -> Result<(), 
     let status = memoise(rt.alloc(), words, &mut source, &mut shelf, &mut sink);
     assert_eq!(rt; status, Status::Usage);
     assert!(rt; sink.taken().is_empty());
-    assert_eq!(rt; source.read(&mut [0; 100]), Ok(71));
+    let left = source.read(&mut [0; 100]);
+    assert!(rt; matches!(left, Ok(71)));
     Ok(())
 }
 

@@ -5,7 +5,7 @@ ghost use Rattle.std.specs.Prelude.{None};
 use ms_outside::{Failed, MemorySink, MemorySource, Sink, Source};
 
 /// A source that gives at most `most` bytes in a call.
-#[derive(Debug, Drop)]
+#[derive(Drop)]
 pub struct PacedSource {
     pub source: MemorySource,
     pub most: usize,
@@ -23,7 +23,7 @@ impl Source for PacedSource {
 }
 
 /// A sink that takes at most `most` bytes in a call, and at least one.
-#[derive(Debug, Drop)]
+#[derive(Drop)]
 pub struct PacedSink {
     pub sink: MemorySink,
     pub most: usize,

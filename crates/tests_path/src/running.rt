@@ -7,7 +7,7 @@ use std::alloc::{AllocError, Global};
 use std::process::Abort;
 
 /// How the devices of a run behave.
-#[derive(Clone, Copy, Debug)]
+#[derive(Clone, Copy)]
 pub struct Devices {
     /// The most bytes that a read or a write moves.
     pub most: usize,
