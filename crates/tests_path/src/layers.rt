@@ -1,0 +1,192 @@
+//! Public calls that the runs of the program don't reach, devices that don't fail, adapters, and
+//! printed texts.
+
+use crate::worked::ADDS;
+use ms_classfile::thin_files_are_read;
+use ms_command::{CommandRefusal, Reply, write_reply};
+use ms_memoise::{MOST_INPUT, Status, memoise};
+use ms_outside::{
+    Fetch, FolderShelf, Shelf, Shelved, StdSink, StdSource, SureShelf, SureSink, SureSource,
+};
+use ms_pool::{Cursor, Short};
+use ms_words::{Name, thrown_named};
+use std::alloc::{AllocError, Global};
+use std::test::Fail;
+
+/// The throwables that the machine knows, each with its parent.
+static TREE: [(&str, &str); 12] = [
+    ("java/lang/Throwable", ""),
+    ("java/lang/Exception", "java/lang/Throwable"),
+    ("java/lang/Error", "java/lang/Throwable"),
+    ("java/lang/RuntimeException", "java/lang/Exception"),
+    (
+        "java/lang/ArithmeticException",
+        "java/lang/RuntimeException",
+    ),
+    (
+        "java/lang/IndexOutOfBoundsException",
+        "java/lang/RuntimeException",
+    ),
+    (
+        "java/lang/NegativeArraySizeException",
+        "java/lang/RuntimeException",
+    ),
+    (
+        "java/lang/NullPointerException",
+        "java/lang/RuntimeException",
+    ),
+    (
+        "java/lang/IllegalArgumentException",
+        "java/lang/RuntimeException",
+    ),
+    (
+        "java/lang/IllegalStateException",
+        "java/lang/RuntimeException",
+    ),
+    (
+        "java/lang/UnsupportedOperationException",
+        "java/lang/RuntimeException",
+    ),
+    (
+        "java/lang/ArrayIndexOutOfBoundsException",
+        "java/lang/IndexOutOfBoundsException",
+    ),
+];
+
+/// The name of the parent of the throwable of this name, empty where it has none.
+fn parent_of(name: &str) -> Option<&'static [u8]> {
+    match thrown_named(name.as_bytes())?.parent() {
+        Some(above) => Some(above.class_name()),
+        None => Some(b""),
+    }
+}
+
+#[test]
+fn throwables_have_their_parents(rt: HostRuntime) {
+    for (name, parent) in &TREE {
+        assert_eq!(rt; parent_of(name), Some(parent.as_bytes()), "at {name}");
+    }
+    assert_eq!(rt; parent_of("java/lang/Object"), None);
+}
+
+#[test]
+fn a_cursor_tells_its_place(rt: HostRuntime) {
+    thin_files_are_read();
+    let mut cursor = Cursor::new(&[1, 2, 3, 4]);
+    assert_eq!(rt; cursor.u2(), Ok(0x0102));
+    assert_eq!(rt; cursor.u4(), Err(Short { at: 2 }));
+    assert_eq!(rt; cursor.at(), 2);
+}
+
+#[test]
+fn faults_are_printed(rt: HostRuntime) -> Result<(), Fail> {
+    let short = Short { at: 7 };
+    let command = CommandRefusal::Command;
+    let memory = CommandRefusal::NoMemory;
+    let text = format!(in rt.alloc(); "{short}; {command}; {memory}")?;
+    assert_eq!(rt;
+        text.as_str(),
+        "the bytes end within what begins at 7; no form of a command fits the line; memory ran out"
+    );
+    Ok(())
+}
+
+#[test]
+fn a_strange_name_is_printed(rt: HostRuntime) -> Result<(), Fail> {
+    let file = Name::of(rt.alloc(), b"a\\b !~\x00\x1f\x7f\xff")?;
+    let text = write_reply(rt.alloc(), &Reply::Absent { file })?;
+    let want = b"refused 3 Absent a\\x5cb\\x20!~\\x00\\x1f\\x7f\\xff\n";
+    assert_eq!(rt; text.as_slice(), want.as_slice());
+    Ok(())
+}
+
+/// The statuses, their numbers, and what is said of each.
+static STATUSES: [(Status, u8, &str); 7] = [
+    (Status::Done, 0, ""),
+    (
+        Status::Usage,
+        2,
+        "usage: memoise  (it takes no words; command lines come on standard input)",
+    ),
+    (
+        Status::ReadFault,
+        4,
+        "memoise: standard input could not be read",
+    ),
+    (
+        Status::WriteFault,
+        5,
+        "memoise: standard output could not be written",
+    ),
+    (Status::NoMemory, 7, "memoise: memory ran out"),
+    (
+        Status::ShelfFault,
+        8,
+        "memoise: a file of the current folder could not be read",
+    ),
+    (
+        Status::TooMuchInput,
+        9,
+        "memoise: more than 4,294,967,295 bytes of commands came",
+    ),
+];
+
+#[test]
+fn statuses_have_numbers_and_texts(rt: HostRuntime) {
+    for (status, code, text) in &STATUSES {
+        assert_eq!(rt; status.code(), *code);
+        assert_eq!(rt; status.text(), *text);
+    }
+    assert_eq!(rt; MOST_INPUT, 4_294_967_295);
+}
+
+#[test]
+fn a_folder_has_no_file_of_a_strange_name(rt: HostRuntime) {
+    let mut shelf = FolderShelf::new(&rt);
+    for name in [
+        b"absent.class".as_slice(),
+        b"absent/T.class",
+        b"\xff",
+        b"",
+        b"a\0b",
+    ] {
+        assert!(rt;
+            matches!(shelf.fetch(rt.alloc(), name), Fetch::Absent),
+            "at {name:?}"
+        );
+    }
+}
+
+/// A shelf that doesn't fail, with the worked file.
+fn sure_shelf(alloc: Global) -> Result<SureShelf, AllocError> {
+    let name = Vec::from_slice(alloc, b"T.class")?;
+    let bytes = Vec::from_slice(alloc, &ADDS)?;
+    let mut files = Vec::new(alloc);
+    files.push(Shelved::new(name, bytes))?;
+    Ok(SureShelf::new(files))
+}
+
+#[test]
+fn the_program_runs_over_sure_devices(rt: HostRuntime) -> Result<(), Fail> {
+    let mut shelf = sure_shelf(rt.alloc())?;
+    let mut source = SureSource::new(Vec::from_slice(rt.alloc(), b"once T.class f (II)I 1 2")?);
+    let mut sink = SureSink::new();
+    let status = memoise(rt.alloc(), &[], &mut source, &mut shelf, &mut sink);
+    assert_eq!(rt; status, Status::Done);
+    Ok(())
+}
+
+#[test]
+fn the_program_runs_over_readers_and_writers(rt: HostRuntime) -> Result<(), Fail> {
+    let mut shelf = sure_shelf(rt.alloc())?;
+    let mut source = StdSource::new(b"once T.class f (II)I 1 2\ntwice\n".as_slice());
+    let mut written = Vec::new(rt.alloc());
+    let mut sink = StdSink::new(&mut written);
+    let status = memoise(rt.alloc(), &[], &mut source, &mut shelf, &mut sink);
+    assert_eq!(rt; status, Status::Done);
+    assert_eq!(rt;
+        written.as_slice(),
+        b"ok returns 3\nrefused 2 Command\n".as_slice()
+    );
+    Ok(())
+}

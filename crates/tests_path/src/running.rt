@@ -1,0 +1,109 @@
+//! Runs of the program over devices in memory.
+
+use crate::paced::{PacedSink, PacedSource};
+use ms_memoise::{MOST_INPUT, Status, converse, memoise};
+use ms_outside::{MemoryShelf, MemorySink, MemorySource, Shelved};
+use std::alloc::{AllocError, Global};
+use std::process::Abort;
+
+/// How the devices of a run behave.
+#[derive(Clone, Copy)]
+pub struct Devices {
+    /// The most bytes that a read or a write moves.
+    pub most: usize,
+    /// The number of the read that fails, and 0 if none does.
+    pub read: u32,
+    /// The same of fetches.
+    pub fetch: u32,
+    /// The same of writes.
+    pub write: u32,
+}
+
+/// Devices that don't fail and move what there is.
+pub const SOUND: Devices = Devices {
+    most: usize::MAX,
+    read: 0,
+    fetch: 0,
+    write: 0,
+};
+
+/// One number, as a list.
+fn only(alloc: Global, number: u32) -> Result<Vec<u32>, AllocError> {
+    Vec::from_slice(alloc, &[number])
+}
+
+/// A shelf with this file under the name T.class, whose fetch of this number fails.
+fn shelf(alloc: Global, file: &[u8], fetch: u32) -> Result<MemoryShelf, AllocError> {
+    let name = Vec::from_slice(alloc, b"T.class")?;
+    let bytes = Vec::from_slice(alloc, file)?;
+    let fails = only(alloc, fetch)?;
+    let mut files = Vec::new(alloc);
+    files.push(Shelved::new(name, bytes))?;
+    Ok(MemoryShelf::new(files, fails))
+}
+
+fn source(alloc: Global, devices: Devices, input: &[u8]) -> Result<PacedSource, AllocError> {
+    let bytes = Vec::from_slice(alloc, input)?;
+    let fails = only(alloc, devices.read)?;
+    Ok(PacedSource {
+        source: MemorySource::new(bytes, fails),
+        most: devices.most,
+    })
+}
+
+fn sink(alloc: Global, devices: Devices) -> Result<PacedSink, AllocError> {
+    let fails = only(alloc, devices.write)?;
+    Ok(PacedSink {
+        sink: MemorySink::new(alloc, fails),
+        most: devices.most,
+    })
+}
+
+/// How the program ends that takes at most so many bytes of this input, and what it wrote.
+fn run(
+    alloc: Global,
+    limit: u32,
+    devices: Devices,
+    file: &[u8],
+    input: &[u8],
+) -> Result<(Status, PacedSink), AllocError> {
+    let mut source = source(alloc, devices, input)?;
+    let mut shelf = shelf(alloc, file, devices.fetch)?;
+    let mut sink = sink(alloc, devices)?;
+    let status = if limit == MOST_INPUT {
+        memoise(alloc, &[], &mut source, &mut shelf, &mut sink)
+    } else {
+        converse(alloc, limit, &mut source, &mut shelf, &mut sink)
+    };
+    Ok((status, sink))
+}
+
+/// That a run over these devices ends so and writes this. `what` tells of the case.
+pub fn check_run(
+    rt: &(impl Abort + AllocGlobal),
+    what: &str,
+    limit: u32,
+    devices: Devices,
+    input: &[u8],
+    end: Status,
+    want: &str,
+) -> Result<(), AllocError> {
+    let (status, sink) = run(rt.alloc(), limit, devices, &crate::worked::ADDS, input)?;
+    assert_eq!(rt; status, end, "at {what}");
+    assert_eq!(rt; sink.sink.taken(), want.as_bytes(), "at {what}");
+    Ok(())
+}
+
+/// That the program reads this input to its end where T.class is this file, and writes this.
+pub fn check(
+    rt: &(impl Abort + AllocGlobal),
+    what: &str,
+    file: &[u8],
+    input: &[u8],
+    want: &str,
+) -> Result<(), AllocError> {
+    let (status, sink) = run(rt.alloc(), MOST_INPUT, SOUND, file, input)?;
+    assert_eq!(rt; status, Status::Done, "at {what}");
+    assert_eq!(rt; sink.sink.taken(), want.as_bytes(), "at {what}");
+    Ok(())
+}
