@@ -7,3 +7,4 @@ pub mod Scanning
 pub mod Alike
 pub mod Ending
 pub mod Telling
+mod Example
