@@ -1,0 +1,6 @@
+pub mod Ints
+pub mod Effects
+pub mod Control
+pub mod Tests
+pub mod Segments
+pub mod Runs

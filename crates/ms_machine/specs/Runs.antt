@@ -1,0 +1,114 @@
+-- Runs of inputs: strings of arms, ends, footprints, and which inputs take a string.
+use Rattle.std.specs.Prelude.{◌≡◌, ℕ, zero, suc, ℤ, IsTrue, List, [], ◌∷◌, ◌++◌, length, map, Option, Some, None}
+use Rattle.ms_words.specs.declared.item.Item.{Item}
+use Rattle.ms_words.specs.declared.item.Item.TheVariants.{Entry}
+use Rattle.ms_words.specs.declared.kind.Kind.{Kind}
+use Rattle.ms_words.specs.Inputs.{Words, are_of, comes_before}
+use Rattle.ms_words.specs.Items.{firsts}
+use Rattle.ms_words.specs.Relations.{related}
+use Rattle.ms_terms.specs.Terms.{Term, Param, value}
+use Rattle.ms_machine.specs.Ints.{Ints, Int, ints, shadows}
+use Rattle.ms_machine.specs.Effects.{Test, End}
+use Rattle.ms_machine.specs.Control.{Program, Done, Ends, start}
+use Rattle.ms_machine.specs.Tests.{Literal, arm_of, literals, map_test}
+use Rattle.ms_machine.specs.Segments.{After, Choice, Over, Segment, segment_from}
+
+-- STRINGS, FOR ANY INTS
+
+-- what is done after an arm
+abbrev pub done_after : {V : Type 0} → After V → ℕ → Done V
+done_after (Choice test arms) arm = arms arm
+done_after (Over end) arm = Ends end
+
+-- where the segment after these arms begins
+abbrev pub after_arms : {V : Type 0} → Ints V → Program → Done V → List ℕ → Done V
+after_arms I P done [] = done
+after_arms I P done (arm ∷ arms) = after_arms I P (done_after (segment_from I P done).after arm) arms
+
+-- the arms of the first choices, at most so many, where each test takes the arm that `decide` says
+abbrev pub string_from : {V : Type 0} → Ints V → Program → (Test V → ℕ) → ℕ → Done V → List ℕ
+string_from I P decide zero done = []
+string_from I P decide (suc depth) done = string_at decide (λ next. string_from I P decide depth next) (segment_from I P done).after
+  where
+    string_at : {V : Type 0} → (Test V → ℕ) → (Done V → List ℕ) → After V → List ℕ
+    string_at decide go (Choice test arms) = decide test ∷ go (arms (decide test))
+    string_at decide go (Over end) = []
+
+-- RUNS OF ONE INPUT
+
+-- the ints of the parameters: each with its word, and the parameter as its shadow
+abbrev pub given_from : ℕ → List Kind → List ℤ → List Int
+given_from index [] words = []
+given_from index (kind ∷ kinds) [] = []
+given_from index (kind ∷ kinds) (word ∷ words) = record { word = word; shadow = Param index kind } ∷ given_from (suc index) kinds words
+
+abbrev pub given : Words → List Int
+given x = given_from 0 x.kinds x.words
+
+abbrev pub started : Program → Words → Done Int
+started P x = start P (given x)
+
+-- the arm that a test takes by its words
+abbrev pub word_arm : Test Int → ℕ
+word_arm test = arm_of (map_test (λ a. a.word) test)
+
+-- the arms of the first `depth` choices of x
+abbrev pub string : Program → Words → ℕ → List ℕ
+string P x depth = string_from ints P word_arm depth (started P x)
+
+-- x takes p
+abbrev pub Takes : Program → Words → List ℕ → Type 0
+Takes P x p = string P x (length p) ≡ p
+
+-- the segment of x after p
+abbrev pub segment_after : Program → Words → List ℕ → Segment Int
+segment_after P x p = segment_from ints P (after_arms ints P (started P x) p)
+
+-- how a run to a depth ends: by itself, or cut where one choice more is due
+pub data PathEnd : Type 0 where
+  Ended : End Int → PathEnd
+  Cut : PathEnd
+
+abbrev pub end_at : After Int → PathEnd
+end_at (Choice test arms) = Cut
+end_at (Over end) = Ended end
+
+-- the end of the run of x to a depth
+abbrev pub end_of : Program → Words → ℕ → PathEnd
+end_of P x depth = end_at (segment_after P x (string P x depth)).after
+
+-- FOOTPRINTS
+
+-- the first segment begins with the entry
+abbrev pub with_entry : List ℕ → List Item → List Item
+with_entry [] items = Entry ∷ items
+with_entry (arm ∷ arms) items = items
+
+-- the items that the segment of x after p executes, each once, in order of first execution
+abbrev pub footprint : Program → Words → List ℕ → List Item
+footprint P x p = firsts (with_entry p (segment_after P x p).trace)
+
+-- LEAST INPUTS
+
+-- x is the first of its kinds that takes p
+pub record IsLeast (P : Program) (kinds : List Kind) (p : List ℕ) (x : Words) : Type 0 where
+  pub of_kinds : x.kinds ≡ kinds
+  pub words : IsTrue (are_of kinds x.words)
+  pub takes : Takes P x p
+  pub first : (y : Words) → y.kinds ≡ kinds → IsTrue (are_of kinds y.words) → Takes P y p → IsTrue (comes_before kinds y.words x.words) → ⊥
+
+-- THE WAY OF A STRING
+
+-- the literals of the arms on the way through p, and whether an input makes a literal true
+abbrev pub next_literals : {V : Type 0} → Ints V → After V → ℕ → List (Literal V)
+next_literals I (Choice test arms) arm = literals I.constant test arm
+next_literals I (Over end) arm = []
+
+abbrev pub way : {V : Type 0} → Ints V → Program → Done V → List ℕ → List (Literal V)
+way I P done [] = []
+way I P done (arm ∷ arms) =
+    let after = (segment_from I P done).after in
+    next_literals I after arm ++ way I P (done_after after arm) arms
+
+abbrev pub IsMet : Words → Literal Term → Type 0
+IsMet x literal = IsTrue (related literal.rel (value x.words literal.a) (value x.words literal.b))
