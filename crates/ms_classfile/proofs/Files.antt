@@ -217,6 +217,10 @@ bytes_from_all bytes all i =
 pub one_method : (bytes : List ℕ) (first second : Method) → IsThinFile bytes first → IsThinFile bytes second → first ≡ second
 one_method bytes first second is_first is_second = some_is first second (sym (file_reaches bytes first is_first) ∙ file_reaches bytes second is_second)
 
+-- where none is read, the bytes are no thin file
+pub none_thin : (bytes : List ℕ) → thin_method bytes ≡ None → (method : Method) → ¬ IsThinFile bytes method
+none_thin bytes none method thin = let read = file_reaches bytes method thin in cc
+
 -- what a reader may count on
 pub record IsReady (method : Method) : Type 0 where
   pub walked : IsTrue (is_walked method.parameters method.max_stack 0 method.instructions)

@@ -1,5 +1,5 @@
 -- What the readers of a thin file return, seen as the parts of a file, and that it is what the
--- definitions of `Reading` give.
+-- definitions of `Reading` give. But for `view`, these words are for private functions.
 use Rattle.std.specs.Prelude.{◌≡◌, ℕ, List, [], ◌∷◌, ◌==◌, if◌then◌else◌, Option, Some, None, Result, Ok, Err}
 use Rattle.std.specs.Option.{option_map}
 use Rattle.std.specs.Int.{w8, cast_signed}
@@ -48,9 +48,9 @@ Finds seen (Ok x) place read = read ≡ Some (seen x, place)
 Finds seen (Err refused) place read = read ≡ None
 
 -- The place is the one behind what is read. Such a read takes no memory.
-abbrev pub Passes : Result Unit Refused → Place → Option Place → Type 0
-Passes (Ok x) place read = read ≡ Some place
-Passes (Err refused) place read = read ≡ None
+abbrev pub LeadsBehind : Result Unit Refused → Place → Option Place → Type 0
+LeadsBehind (Ok x) place read = read ≡ Some place
+LeadsBehind (Err refused) place read = read ≡ None
 
 -- the first instruction of these bytes, and the bytes after it
 abbrev pub first_instruction : List ℕ → Option (Instruction × List ℕ)

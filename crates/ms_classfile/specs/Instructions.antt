@@ -28,16 +28,19 @@ IsPlain Iadd = Unit {0}
 IsPlain Isub = Unit {0}
 IsPlain Ireturn = Unit {0}
 
--- ireturn is the last instruction and finds one word
-abbrev pub is_return : ℕ → List Instruction → Bool
-is_return depth [] = depth == 1
-is_return depth (instruction ∷ code) = false
+-- Whether an ireturn that is met at this depth, with this code behind it, ends the method as it has to:
+-- the stack has one word, the one to return, and no instruction follows.
+abbrev pub returns_last : ℕ → List Instruction → Bool
+returns_last depth [] = depth == 1
+returns_last depth (instruction ∷ code) = false
 
 -- Whether code is walked in order from this depth: each instruction finds its operands, the depth is
--- at most `most`, each iload names one of the parameters, and ireturn stands last, once, at depth 1.
+-- at most `most`, each iload names one of the parameters, and ireturn stands last, once, at depth 1
+-- (JVMS SE 8, section 4.7.3 for max_stack, section 4.9 for the constraints on code). Such code has a
+-- push more than it has operators, so at least two instructions, and an even number of them.
 abbrev pub is_walked : (parameters most : ℕ) → ℕ → List Instruction → Bool
 is_walked parameters most depth [] = false
-is_walked parameters most depth (Ireturn ∷ code) = is_return depth code
+is_walked parameters most depth (Ireturn ∷ code) = returns_last depth code
 is_walked parameters most depth (Iload local ∷ code) =
     nat_lt local parameters && nat_lt depth most && is_walked parameters most (depth + 1) code
 is_walked parameters most depth (Iconst word ∷ code) = nat_lt depth most && is_walked parameters most (depth + 1) code

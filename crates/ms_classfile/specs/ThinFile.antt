@@ -74,7 +74,7 @@ abbrev pub spelled_code : Code → List ℕ
 spelled_code code =
     u2 code.max_stack ++ u2 code.max_locals ++ u4 (length (code_bytes code)) ++ code_bytes code ++ u2 0 ++ spelled_attributes code.attributes
 
--- the number of entries is one more than there are
+-- constant_pool_count, which is the number of entries plus one, and the entries (JVMS SE 8, section 4.1)
 abbrev pub spelled_pool : List Entry → List ℕ
 spelled_pool pool = u2 (length pool + 1) ++ flat_map spelled_entry pool
 
@@ -150,8 +150,8 @@ abbrev pub EntryFits : Entry → Type 0
 EntryFits (Utf8 text) = length text < 2 ^ 16
 EntryFits (Class name) = name < 2 ^ 16
 
--- what is said of a thin method: its name, its descriptor, the number of its parameters, the most words
--- that its stack has at any time, its instructions
+-- What is said of a thin method: its name, its descriptor, the number of its parameters, the most words
+-- that its stack may have by the file's declaration (max_stack; JVMS SE 8, section 4.7.3), its instructions.
 pub record Method : Type 0 where
   pub name : List ℕ
   pub descriptor : List ℕ
@@ -159,7 +159,9 @@ pub record Method : Type 0 where
   pub max_stack : ℕ
   pub instructions : List Instruction
 
--- the code of a method with so many parameters
+-- The code of a method with so many parameters: what its Code attribute states is small enough, and its
+-- instructions meet the constraints on code (JVMS SE 8, section 4.7.3 for the attribute, section 4.9 for
+-- the constraints).
 pub record IsThinCode (pool : List Entry) (parameters : ℕ) (code : Code) : Type 0 where
   pub stack : code.max_stack ≤ 256
   pub locals : code.max_locals ≤ 256

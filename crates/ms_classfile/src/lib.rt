@@ -7,4 +7,3 @@ mod thin;
 
 pub use instruction::Instruction;
 pub use thin::{ThinMethod, read_thin, thin_files_are_read};
-

@@ -1,6 +1,6 @@
 //! Thin files: class files of one class with one static method over ints, whose code has no branch.
 
-ghost use Rattle.std.specs.Prelude.{◌≡◌, ◌<◌, ◌≤◌, ℕ, List, All, Some, IfOk, IfSome, IsTrue};
+ghost use Rattle.std.specs.Prelude.{◌≡◌, ◌<◌, ◌≤◌, ℕ, List, All, Some, IfOk, IfSome, IfNone, IsTrue};
 ghost use Rattle.std.specs.Option.{option_map};
 ghost use Rattle.ms_classfile.specs.Instructions.{is_walked};
 ghost use Rattle.ms_classfile.specs.ThinFile.{Method, IsThinFile};
@@ -45,7 +45,11 @@ fn file(alloc: Global, bytes: &[u8]) -> Result<ThinMethod<'_>, Failure>
 /// The method of the thin file that these bytes are, or `None` where they are none. The name and the
 /// descriptor are lent from the bytes. It fails for want of memory alone (JVMS SE 8, chapter 4).
 pub fn read_thin(alloc: Global, bytes: &[u8]) -> Result<Option<ThinMethod<'_>>, NoMemory>
-    // What is found is what the definition gives for these bytes.
+    // The bytes are a thin file with the method that is found; where none is found, they are no thin file.
+    ensures thin { IfOk result (λ found. IfSome found (λ method. IsThinFile bytes.now (view method))) }
+    ensures none { IfOk result (λ found. IfNone found ((method : Method) → ¬ IsThinFile bytes.now method)) }
+
+    // What is found is what reading these bytes from left to right gives.
     ensures found { IfOk result (λ found. option_map view found ≡ thin_method bytes.now) }
 
     // Its code is walked, so that each instruction finds its operands, below these limits.

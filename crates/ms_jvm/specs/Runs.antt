@@ -18,26 +18,28 @@ combined operator (right ∷ []) = None
 combined operator (right ∷ left ∷ below) = Some (operator left right ∷ below)
 
 -- the operand stack that an instruction leaves, the top first
-abbrev pub left_by : List ℤ → Instruction → List ℤ → Option (List ℤ)
-left_by locals (Iload local) stack = option_map (λ word. word ∷ stack) (slice_get locals local)
-left_by locals (Iconst word) stack = Some (word ∷ stack)
-left_by locals (Bipush word) stack = Some (word ∷ stack)
-left_by locals Iadd stack = combined (applied2 Add) stack
-left_by locals Isub stack = combined (applied2 Sub) stack
-left_by locals Ireturn stack = None
+abbrev pub stack_after : List ℤ → Instruction → List ℤ → Option (List ℤ)
+stack_after locals (Iload local) stack = option_map (λ word. word ∷ stack) (slice_get locals local)
+stack_after locals (Iconst word) stack = Some (word ∷ stack)
+stack_after locals (Bipush word) stack = Some (word ∷ stack)
+stack_after locals Iadd stack = combined (applied2 Add) stack
+stack_after locals Isub stack = combined (applied2 Sub) stack
+stack_after locals Ireturn stack = None
 
 -- The word that code returns, run on these locals from this operand stack. There is none where an
--- instruction doesn't find its operands, or the code ends without ireturn.
-abbrev pub returned : List ℤ → List ℤ → List Instruction → Option ℤ
-returned locals stack [] = None
-returned locals stack (Ireturn ∷ code) = top stack
-returned locals stack (Iload local ∷ code) = option_and_then (λ next. returned locals next code) (left_by locals (Iload local) stack)
-returned locals stack (Iconst word ∷ code) = option_and_then (λ next. returned locals next code) (left_by locals (Iconst word) stack)
-returned locals stack (Bipush word ∷ code) = option_and_then (λ next. returned locals next code) (left_by locals (Bipush word) stack)
-returned locals stack (Iadd ∷ code) = option_and_then (λ next. returned locals next code) (left_by locals Iadd stack)
-returned locals stack (Isub ∷ code) = option_and_then (λ next. returned locals next code) (left_by locals Isub stack)
+-- instruction doesn't find its operands, or the code ends without ireturn. Walked code returns one, by
+-- the law `walked_code_returns`.
+abbrev pub returned_word : List ℤ → List ℤ → List Instruction → Option ℤ
+returned_word locals stack [] = None
+returned_word locals stack (Ireturn ∷ code) = top stack
+returned_word locals stack (Iload local ∷ code) = option_and_then (λ next. returned_word locals next code) (stack_after locals (Iload local) stack)
+returned_word locals stack (Iconst word ∷ code) = option_and_then (λ next. returned_word locals next code) (stack_after locals (Iconst word) stack)
+returned_word locals stack (Bipush word ∷ code) = option_and_then (λ next. returned_word locals next code) (stack_after locals (Bipush word) stack)
+returned_word locals stack (Iadd ∷ code) = option_and_then (λ next. returned_word locals next code) (stack_after locals Iadd stack)
+returned_word locals stack (Isub ∷ code) = option_and_then (λ next. returned_word locals next code) (stack_after locals Isub stack)
 
--- the instruction finds its operands on a stack of so many words, with so many locals, and returns nothing
+-- The instruction finds its operands on a stack of so many words, with so many locals, and returns nothing.
+-- This word is for a private function.
 abbrev pub IsReady : ℕ → ℕ → Instruction → Type 0
 IsReady locals depth (Iload local) = local < locals
 IsReady locals depth (Iconst word) = Unit {0}

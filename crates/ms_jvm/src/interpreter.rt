@@ -1,7 +1,7 @@
-ghost use Rattle.std.specs.Prelude.{◌≡◌, ◌<◌, ◌↔◌, [], length, IsTrue, IfOk, OnOk, Some};
+ghost use Rattle.std.specs.Prelude.{◌≡◌, ◌<◌, ◌↔◌, ℕ, ℤ, List, [], length, IsTrue, IsSome, IfOk, OnOk, Some};
 ghost use Rattle.ms_words.specs.Words.{applied2};
 ghost use Rattle.ms_classfile.specs.Instructions.{is_walked};
-ghost use Rattle.ms_jvm.specs.Runs.{IsReady, combined, left_by, returned};
+ghost use Rattle.ms_jvm.specs.Runs.{IsReady, combined, stack_after, returned_word};
 
 use crate::stack::OperandStack;
 use ms_classfile::Instruction;
@@ -18,7 +18,7 @@ pub fn run(
     words: &[i32],
 ) -> Result<i32, NoMemory>
     requires { IsTrue (is_walked (length words.now) max_stack 0 code.now) }
-    ensures { IfOk result (λ word. returned words.now [] code.now ≡ Some word) }
+    ensures { IfOk result (λ word. returned_word words.now [] code.now ≡ Some word) }
 {
     let mut stack = OperandStack::with_capacity(alloc, max_stack)?;
     for instruction in code {
@@ -29,6 +29,12 @@ pub fn run(
     }
     unreachable!()
 }
+
+/// The law of walked code: it returns a word, whatever its locals hold. So a thin method that is run on
+/// as many words as it has parameters always returns one. It does nothing.
+pub fn walked_code_returns()
+    ensures { (locals : List ℤ) (most : ℕ) (code : List Instruction) → IsTrue (is_walked (length locals) most 0 code) → IsSome (returned_word locals [] code) }
+{}
 
 fn is_return(instruction: Instruction) -> bool
     ensures { IsTrue result ↔ (instruction ≡ Instruction.Ireturn) }
@@ -43,7 +49,7 @@ fn execute(
     stack: &mut OperandStack,
 ) -> Result<(), AllocError>
     requires { IsReady (length words.now) (length stack.old) instruction }
-    ensures { OnOk result (left_by words.now instruction stack.old ≡ Some stack.new) }
+    ensures { OnOk result (stack_after words.now instruction stack.old ≡ Some stack.new) }
 {
     match instruction {
         Instruction::Iload(local) => stack.push(words[local as usize]),

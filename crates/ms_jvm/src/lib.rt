@@ -4,4 +4,4 @@
 mod interpreter;
 mod stack;
 
-pub use interpreter::run;
+pub use interpreter::{run, walked_code_returns};

@@ -1,6 +1,6 @@
 ghost use Rattle.std.specs.Prelude.{◌≡◌, map};
 ghost use Rattle.ms_classfile.specs.Reading as reading;
-ghost use Rattle.ms_classfile.specs.Found.{Passes, entry_view};
+ghost use Rattle.ms_classfile.specs.Found.{LeadsBehind, entry_view};
 
 use super::failure::Refused;
 use super::parts::PoolEntry;
@@ -14,7 +14,7 @@ const MAGIC: u32 = 0xCAFE_BABE;
 /// Reads the magic number and the version, 45.0 to 52.65535 (JVMS SE 8, section 4.1).
 #[tactic(auto, unfolding(crate::specs::Reading::header_at))]
 pub fn header(cursor: &mut Cursor<'_>) -> Result<(), Refused>
-    ensures { Passes result cursor.new (reading.header_at cursor.old) }
+    ensures { LeadsBehind result cursor.new (reading.header_at cursor.old) }
 {
     let first = cursor.u4()?;
     if first != MAGIC {
@@ -31,7 +31,7 @@ pub fn header(cursor: &mut Cursor<'_>) -> Result<(), Refused>
 /// Reads the class's flags, its name, which no throwable has, and its parent, java/lang/Object.
 #[tactic(auto, unfolding(crate::specs::Reading::class_part_at))]
 pub fn class_part(pool: &[PoolEntry<'_>], cursor: &mut Cursor<'_>) -> Result<(), Refused>
-    ensures { Passes result cursor.new (reading.class_part_at (map entry_view pool.now) cursor.old) }
+    ensures { LeadsBehind result cursor.new (reading.class_part_at (map entry_view pool.now) cursor.old) }
 {
     let _access = cursor.u2()?;
     let this_class = cursor.u2()?;
@@ -47,7 +47,7 @@ pub fn class_part(pool: &[PoolEntry<'_>], cursor: &mut Cursor<'_>) -> Result<(),
 /// Reads how many interfaces, fields and methods there are: none, none and one.
 #[tactic(auto, unfolding(crate::specs::Reading::counts_at))]
 pub fn counts(cursor: &mut Cursor<'_>) -> Result<(), Refused>
-    ensures { Passes result cursor.new (reading.counts_at cursor.old) }
+    ensures { LeadsBehind result cursor.new (reading.counts_at cursor.old) }
 {
     let interfaces = cursor.u2()?;
     let fields = cursor.u2()?;

@@ -17,7 +17,9 @@ impl From<Short> for Refused {
 /// Why no method is read: the bytes are not a thin file, or memory ran out.
 #[derive(Clone, Copy, Debug, PartialEq, Eq)]
 pub enum Failure {
+    /// The bytes are not a thin file.
     NotThin,
+    /// Memory ran out before that was known.
     NoMemory,
 }
 

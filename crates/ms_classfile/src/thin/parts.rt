@@ -4,7 +4,9 @@ use crate::Instruction;
 /// (JVMS SE 8, sections 4.4.7 and 4.4.1).
 #[derive(Clone, Copy, Debug)]
 pub enum PoolEntry<'a> {
+    /// A text, in the bytes of the file.
     Utf8(&'a [u8]),
+    /// A class, with the number of its name in the pool.
     Class(u16),
 }
 
@@ -33,8 +35,10 @@ pub struct ThinMethod<'a> {
     pub descriptor: &'a [u8],
     /// The number of int parameters, 0 to 4.
     pub parameters: usize,
-    /// The most words that the operand stack has at any time, 0 to 256 (JVMS SE 8, section 4.7.3).
+    /// The most words that the operand stack may have by the file's declaration, 1 to 256
+    /// (JVMS SE 8, section 4.7.3).
     pub max_stack: usize,
-    /// The code, 1 to 19,999 instructions, the last of them `Ireturn`.
+    /// The code, 2 to 19,998 instructions: an even number, since it has one push more than operators.
+    /// The last is `Ireturn`.
     pub instructions: Vec<Instruction>,
 }
