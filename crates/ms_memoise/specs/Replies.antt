@@ -8,7 +8,7 @@ use Rattle.ms_command.specs.declared.reply.Reply.TheVariants as replies
 use Rattle.ms_command.specs.Texts.{returned_text}
 use Rattle.ms_classfile.specs.ThinFile.{Method}
 use Rattle.ms_classfile.specs.Reading.{thin_method}
-use Rattle.ms_jvm.specs.Runs.{returned}
+use Rattle.ms_jvm.specs.Runs.{returned_word}
 
 -- whether a whole number is a word of 32 bits
 abbrev pub is_word : ℤ → Bool
@@ -20,16 +20,16 @@ abbrev pub is_called_so : Method → List ℕ → List ℕ → List ℤ → Bool
 is_called_so method name desc numbers =
     bytes_eq method.name name && bytes_eq method.descriptor desc && (length numbers == method.parameters) && list_all is_word numbers
 
--- a run that returned a word; a thin method always returns one
+-- a run that returned a word; a thin method always returns one, by the law `walked_code_returns` of the interpreter
 abbrev pub run_reply : Option ℤ → Reply
 run_reply None = replies.NotBuilt
 run_reply (Some word) = replies.Ran (returned_text word)
 
--- the reply where the file has this thin method, or is no thin file
+-- the reply where the file has this thin method, or is no thin file, as the grammar of thin files says (`read_thin`)
 abbrev pub method_reply : Option Method → List ℕ → List ℕ → List ℤ → Reply
 method_reply None name desc numbers = replies.NotBuilt
 method_reply (Some method) name desc numbers =
-    if is_called_so method name desc numbers then run_reply (returned numbers [] method.instructions) else replies.NotBuilt
+    if is_called_so method name desc numbers then run_reply (returned_word numbers [] method.instructions) else replies.NotBuilt
 
 -- the reply to `once FILE NAME DESC WORD..`, by the shelf's answer to FILE
 abbrev pub once_reply : List ℕ → List ℕ → List ℕ → List ℤ → shelves.Answer → Reply
