@@ -65,16 +65,16 @@ abbrev pub segment_after : Program → Words → List ℕ → Segment Int
 segment_after P x p = segment_from ints P (after_arms ints P (started P x) p)
 
 -- how a run to a depth ends: by itself, or cut where one choice more is due
-pub data PathEnd : Type 0 where
-  Ended : End Int → PathEnd
-  Cut : PathEnd
+pub data RunEnd : Type 0 where
+  EndsSo : End Int → RunEnd
+  IsCut : RunEnd
 
-abbrev pub end_at : After Int → PathEnd
-end_at (Choice test arms) = Cut
-end_at (Over end) = Ended end
+abbrev pub end_at : After Int → RunEnd
+end_at (Choice test arms) = IsCut
+end_at (Over end) = EndsSo end
 
 -- the end of the run of x to a depth
-abbrev pub end_of : Program → Words → ℕ → PathEnd
+abbrev pub end_of : Program → Words → ℕ → RunEnd
 end_of P x depth = end_at (segment_after P x (string P x depth)).after
 
 -- FOOTPRINTS

@@ -1,0 +1,158 @@
+-- The definitions computed on small methods.
+use Rattle.std.proofs.Common.{◌≡◌, ℕ, ◌==◌, List, [], ◌∷◌, ℤ, pos, negsuc, Option, Some, None, cond, refl}
+use Rattle.std.specs.Int.{int_wrap}
+use Rattle.ms_words.specs.declared.item.Item.{Item}
+use Rattle.ms_words.specs.declared.item.Item.TheVariants.{Entry, At}
+use Rattle.ms_words.specs.declared.kind.Kind.TheVariants.{Z, I}
+use Rattle.ms_words.specs.declared.operator.Bin.TheVariants.{Sub}
+use Rattle.ms_words.specs.declared.operator.Rel.TheVariants.{Eq, Ne, Lt}
+use Rattle.ms_words.specs.Inputs.{Words}
+use Rattle.ms_terms.specs.Terms.{Constant, Param, Binary}
+use Rattle.ms_machine.specs.Ints.{ints}
+use Rattle.ms_machine.specs.Effects as effects
+use Rattle.ms_machine.specs.Effects.{Instr, Push, Load, Combine, Compare, CompareZero, ReturnValue, Returned}
+use Rattle.ms_machine.specs.Control.{Program, View, NoInitialiser}
+use Rattle.ms_machine.specs.Segments.{most_instructions}
+use Rattle.ms_machine.specs.Runs.{EndsSo, IsCut, end_of, footprint, string, started, way}
+
+-- A METHOD, instruction by instruction: its offset, what it is, the offset behind it, its targets
+
+pub record Line : Type 0 where
+  pub offset : ℕ
+  pub instr : Instr
+  pub behind : ℕ
+  pub targets : List ℕ
+
+abbrev line : ℕ → Instr → ℕ → List ℕ → Line
+line offset instr behind targets = record { offset = offset; instr = instr; behind = behind; targets = targets }
+
+abbrev at : ℕ → Item
+at offset = At 0 0 offset
+
+abbrev items : List ℕ → List Item
+items [] = []
+items (offset ∷ offsets) = at offset ∷ items offsets
+
+abbrev view_of : Line → View
+view_of line = record { instr = line.instr; next = Some (at line.behind); targets = items line.targets; handlers = []; callee = None; initialiser = None }
+
+abbrev view_in : List Line → ℕ → Option View
+view_in [] offset = None
+view_in (line ∷ lines) offset = cond (line.offset == offset) (Some (view_of line)) (view_in lines offset)
+
+abbrev view_at : List Line → Item → Option View
+view_at lines Entry = None
+view_at lines (At class method offset) = view_in lines offset
+
+abbrev method : List Line → Program
+method lines = record { opening = record { first = at 0; class = 0; initialiser = NoInitialiser }; view = view_at lines }
+
+-- TWO TRUTH VALUES: f(ZZ)I with iload_0, ifeq 6, iconst_1, ireturn, 6: iload_1, ifne 12, iconst_2, ireturn,
+-- 12: iconst_0, ireturn
+
+abbrev truths : Program
+truths = method (line 0 (Load 0) 1 [] ∷ line 1 (CompareZero Eq) 4 (6 ∷ []) ∷ line 4 (Push (pos 1)) 5 [] ∷ line 5 ReturnValue 6 []
+    ∷ line 6 (Load 1) 7 [] ∷ line 7 (CompareZero Ne) 10 (12 ∷ []) ∷ line 10 (Push (pos 2)) 11 [] ∷ line 11 ReturnValue 12 []
+    ∷ line 12 (Push (pos 0)) 13 [] ∷ line 13 ReturnValue 14 [] ∷ [])
+
+abbrev two : ℤ → ℤ → Words
+two a b = record { kinds = Z ∷ Z ∷ []; words = a ∷ b ∷ [] }
+
+string_11 : string truths (two (pos 1) (pos 1)) 2 ≡ 0 ∷ []
+unfolding most_instructions
+string_11 = refl
+
+string_10 : string truths (two (pos 1) (pos 0)) 2 ≡ 0 ∷ []
+unfolding most_instructions
+string_10 = refl
+
+string_01 : string truths (two (pos 0) (pos 1)) 2 ≡ 1 ∷ 1 ∷ []
+unfolding most_instructions
+string_01 = refl
+
+string_00 : string truths (two (pos 0) (pos 0)) 2 ≡ 1 ∷ 0 ∷ []
+unfolding most_instructions
+string_00 = refl
+
+-- at depth 1 the second choice is due, and at depth 2 the run has ended
+cut_00 : end_of truths (two (pos 0) (pos 0)) 1 ≡ IsCut
+unfolding most_instructions
+cut_00 = refl
+
+end_00 : end_of truths (two (pos 0) (pos 0)) 2 ≡ EndsSo (Returned (effects.Int (record { word = pos 2; shadow = Constant (pos 2) })))
+unfolding most_instructions
+end_00 = refl
+
+-- the choosing instruction stands in the segment that reaches it, and the entry in the first one
+footprint_none : footprint truths (two (pos 0) (pos 0)) [] ≡ Entry ∷ at 0 ∷ at 1 ∷ []
+unfolding most_instructions
+footprint_none = refl
+
+footprint_1 : footprint truths (two (pos 0) (pos 0)) (1 ∷ []) ≡ at 6 ∷ at 7 ∷ []
+unfolding most_instructions
+footprint_1 = refl
+
+footprint_10 : footprint truths (two (pos 0) (pos 0)) (1 ∷ 0 ∷ []) ≡ at 10 ∷ at 11 ∷ []
+unfolding most_instructions
+footprint_10 = refl
+
+-- A CHOICE WITHIN AN ARM: f(ZI)I with iload_0, ifne 6, iconst_1, ireturn, 6: iload_1, iconst_5, if_icmplt 13,
+-- iconst_2, ireturn, 13: iconst_3, ireturn
+
+abbrev nested : Program
+nested = method (line 0 (Load 0) 1 [] ∷ line 1 (CompareZero Ne) 4 (6 ∷ []) ∷ line 4 (Push (pos 1)) 5 [] ∷ line 5 ReturnValue 6 []
+    ∷ line 6 (Load 1) 7 [] ∷ line 7 (Push (pos 5)) 8 [] ∷ line 8 (Compare Lt) 11 (13 ∷ []) ∷ line 11 (Push (pos 2)) 12 [] ∷ line 12 ReturnValue 13 []
+    ∷ line 13 (Push (pos 3)) 14 [] ∷ line 14 ReturnValue 15 [] ∷ [])
+
+abbrev truth_and : ℤ → ℤ → Words
+truth_and a b = record { kinds = Z ∷ I ∷ []; words = a ∷ b ∷ [] }
+
+nested_0 : string nested (truth_and (pos 0) (negsuc 0)) 8 ≡ 0 ∷ []
+unfolding most_instructions
+nested_0 = refl
+
+nested_low : string nested (truth_and (pos 1) (negsuc 0)) 8 ≡ 1 ∷ 1 ∷ []
+unfolding most_instructions
+nested_low = refl
+
+nested_high : string nested (truth_and (pos 1) (pos 5)) 8 ≡ 1 ∷ 0 ∷ []
+unfolding most_instructions
+nested_high = refl
+
+-- no choice is allowed at depth 0
+nested_cut : end_of nested (truth_and (pos 1) (pos 5)) 0 ≡ IsCut
+unfolding most_instructions
+nested_cut = refl
+
+nested_end : end_of nested (truth_and (pos 1) (pos 5)) 2 ≡ EndsSo (Returned (effects.Int (record { word = pos 2; shadow = Constant (pos 2) })))
+unfolding most_instructions
+nested_end = refl
+
+-- A COMPARISON OF CONSTANTS IS NO CHOICE: f(I)I with iconst_2, iconst_3, if_icmplt 6, 6: iload_0, iconst_1, isub,
+-- iload_0, if_icmplt 14, iconst_0, 14: iload_0, ireturn
+
+abbrev constants : Program
+constants = method (line 0 (Push (pos 2)) 1 [] ∷ line 1 (Push (pos 3)) 2 [] ∷ line 2 (Compare Lt) 5 (6 ∷ []) ∷ line 6 (Load 0) 7 [] ∷ line 7 (Push (pos 1)) 8 []
+    ∷ line 8 (Combine Sub) 9 [] ∷ line 9 (Load 0) 10 [] ∷ line 10 (Compare Lt) 13 (14 ∷ []) ∷ line 13 (Push (pos 0)) 14 [] ∷ line 14 (Load 0) 15 [] ∷ line 15 ReturnValue 16 [] ∷ [])
+
+abbrev one : ℤ → Words
+one a = record { kinds = I ∷ []; words = a ∷ [] }
+
+-- x - 1 < x but for the least word, where it wraps
+string_5 : string constants (one (pos 5)) 8 ≡ 1 ∷ []
+unfolding most_instructions int_wrap
+string_5 = refl
+
+string_least : string constants (one (negsuc 2147483647)) 8 ≡ 0 ∷ []
+unfolding most_instructions int_wrap
+string_least = refl
+
+end_5 : end_of constants (one (pos 5)) 8 ≡ EndsSo (Returned (effects.Int (record { word = pos 5; shadow = Param 0 I })))
+unfolding most_instructions int_wrap
+end_5 = refl
+
+-- what arm 1 of the one choice says
+way_1 : way ints constants (started constants (one (pos 5))) (1 ∷ [])
+    ≡ record { rel = Lt; a = record { word = pos 4; shadow = Binary Sub (Param 0 I) (Constant (pos 1)) }; b = record { word = pos 5; shadow = Param 0 I } } ∷ []
+unfolding most_instructions int_wrap
+way_1 = refl
