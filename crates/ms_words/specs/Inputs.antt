@@ -1,6 +1,6 @@
 -- Kinds, inputs and their order.
-use Rattle.std.specs.Prelude.{◌≡◌, ℕ, ◌+◌, ◌^◌, ◌<◌, ◌≤◌, ◌%◌, List, [], ◌∷◌, length, map, replicate, ℤ, pos, negsuc, Bool, true, false, cond, ◌&&◌, ◌==◌, nat_lt, nat_le, slice_set, slice_get, Option, Some, None}
-use Rattle.std.specs.Int.{w32, cast_unsigned}
+use Rattle.std.specs.Prelude.{◌≡◌, ℕ, ◌^◌, ◌≤◌, ◌%◌, List, [], ◌∷◌, length, replicate, ℤ, pos, negsuc, Bool, true, false, ◌&&◌, ◌==◌, nat_lt, IsTrue, if◌then◌else◌}
+use Rattle.std.specs.Int.{w32, cast_unsigned, bit_at}
 use Rattle.ms_words.specs.declared.kind.Kind.{Kind}
 use Rattle.ms_words.specs.declared.kind.Kind.TheVariants.{Z, B, C, S, I}
 
@@ -12,7 +12,7 @@ bits_of C = 16
 bits_of S = 16
 bits_of I = 32
 
--- whether a word is one of the kind: 0 or 1; a signed byte; a number of 16 bits; a signed number of 16 bits; any
+-- whether a word is one of the kind: 0 or 1; a signed byte; a number of 16 bits; a signed number of 16 bits; one of 32 bits
 abbrev pub is_of : Kind → ℤ → Bool
 is_of Z (pos n) = nat_lt n 2
 is_of Z (negsuc n) = false
@@ -29,28 +29,37 @@ is_of I (negsuc n) = nat_lt n (2 ^ 31)
 abbrev pub unsigned_of : Kind → ℤ → ℕ
 unsigned_of kind word = cast_unsigned w32 word % 2 ^ bits_of kind
 
--- the most parameters
-abbrev pub most_parameters : ℕ
-most_parameters = 8
+-- whether bit b of a word is 1, counted from the lowest of its 32
+abbrev pub bit_of : ℤ → ℕ → Bool
+bit_of word b = bit_at (cast_unsigned w32 word) b == 1
 
 -- an input: the kinds of the parameters, and a word for each
 pub record Words : Type 0 where
   pub kinds : List Kind
   pub words : List ℤ
 
--- each word is one of its kind, and there is one for each
+-- whether there is one word for each kind, and each is one of its kind
 abbrev pub are_of : List Kind → List ℤ → Bool
 are_of [] [] = true
 are_of [] (word ∷ words) = false
 are_of (kind ∷ kinds) [] = false
 are_of (kind ∷ kinds) (word ∷ words) = is_of kind word && are_of kinds words
 
--- Whether the first input comes before the second: the first parameter whose words differ decides, by
--- the unsigned values of their bits.
+-- what each input of the program keeps: at most eight parameters, and for each a word of its kind
+pub record IsInput (input : Words) : Type 0 where
+  pub few : length input.kinds ≤ 8
+  pub as_many : length input.words ≡ length input.kinds
+  pub of_kinds : IsTrue (are_of input.kinds input.words)
+
+-- the input of these kinds whose words are all 0
+abbrev pub zero_of : List Kind → Words
+zero_of kinds = record { kinds = kinds; words = replicate (length kinds) (pos 0) }
+
+-- Whether the first words come before the second: parameter by parameter, the first whose bits differ
+-- decides, by their unsigned values.
 abbrev pub comes_before : List Kind → List ℤ → List ℤ → Bool
+comes_before (kind ∷ kinds) (x ∷ xs) (y ∷ ys) =
+    if unsigned_of kind x == unsigned_of kind y then comes_before kinds xs ys else nat_lt (unsigned_of kind x) (unsigned_of kind y)
 comes_before [] xs ys = false
 comes_before (kind ∷ kinds) [] ys = false
 comes_before (kind ∷ kinds) (x ∷ xs) [] = false
-comes_before (kind ∷ kinds) (x ∷ xs) (y ∷ ys) =
-    cond (nat_lt (unsigned_of kind x) (unsigned_of kind y)) true
-    (cond (unsigned_of kind x == unsigned_of kind y) (comes_before kinds xs ys) false)

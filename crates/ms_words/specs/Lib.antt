@@ -3,3 +3,4 @@ pub mod Throwables
 pub mod Relations
 pub mod Padding
 pub mod Inputs
+pub mod Kept

@@ -1,5 +1,7 @@
 ghost use Rattle.std.specs.Prelude.{◌≡◌, ◌∷◌, ◌++◌, ◌<◌, ◌≤◌, ◌↔◌, [], length, IsTrue};
 ghost use Rattle.std.specs.Bool.{OnFalse, OnTrue};
+ghost use Rattle.ms_words.specs.Inputs.{bits_of, is_of, unsigned_of};
+ghost use Rattle.ms_words.specs.Padding.{padded};
 
 use std::marker::Model;
 
@@ -14,8 +16,59 @@ pub enum Kind {
     I,
 }
 
+impl Kind {
+    /// How many bits a word of the kind has, from 1 to 32.
+    pub fn bits(self) -> u32
+        ensures { result ≡ bits_of self }
+    {
+        match self {
+            Kind::Z => 1,
+            Kind::B => 8,
+            Kind::C | Kind::S => 16,
+            Kind::I => 32,
+        }
+    }
+
+    /// Whether the word is one of the kind: for `Z` 0 or 1, for `B` -128 to 127, for `C` 0 to 65,535, for
+    /// `S` -32,768 to 32,767, for `I` any.
+    pub fn has(self, word: i32) -> bool
+        ensures { result ≡ is_of self word }
+    {
+        match self {
+            Kind::Z => 0 <= word && word <= 1,
+            Kind::B => -128 <= word && word <= 127,
+            Kind::C => 0 <= word && word <= 65_535,
+            Kind::S => -32_768 <= word && word <= 32_767,
+            Kind::I => true,
+        }
+    }
+
+    /// The number, unsigned, that the lowest bits of the word are, as many as the kind has.
+    pub fn unsigned(self, word: i32) -> u32
+        ensures { result ≡ unsigned_of self word }
+    {
+        let pattern = word.cast_unsigned();
+        match self {
+            Kind::Z => pattern % 2,
+            Kind::B => pattern % 256,
+            Kind::C | Kind::S => pattern % 65_536,
+            Kind::I => pattern,
+        }
+    }
+}
+
 /// The most kinds in a list.
-const MOST: usize = 8;
+pub(crate) const MOST: usize = 8;
+
+/// The kinds, and `Z` behind them up to eight.
+pub(crate) fn eight_places(kinds: &[Kind]) -> [Kind; MOST]
+    requires { length kinds.now ≤ 8 }
+    ensures { result ≡ padded Kind.Z kinds.now }
+{
+    let mut places = [Kind::Z; MOST];
+    places[..kinds.len()].copy_from_slice(kinds);
+    places
+}
 
 /// A list of at most eight kinds, of the parameters of a method. No method takes memory.
 #[derive(Clone, Copy, Debug)]
@@ -49,6 +102,17 @@ impl Kinds {
         Kinds {
             kinds: [Kind::Z; MOST],
             count: 0,
+        }
+    }
+
+    /// The list of these kinds, at most eight.
+    pub fn of(kinds: &[Kind]) -> Kinds
+        requires { length kinds.now ≤ 8 }
+        ensures { result ≡ kinds.now }
+    {
+        Kinds {
+            kinds: eight_places(kinds),
+            count: kinds.len(),
         }
     }
 

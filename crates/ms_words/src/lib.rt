@@ -5,11 +5,17 @@
 //! result to a word. A name is a list of bytes.
 #![tactic(auto)]
 
+mod end;
+mod input;
+mod item;
 mod kind;
 mod name;
 mod operator;
 mod thrown;
 
+pub use end::{Ended, PathEnd};
+pub use input::{Input, input_less};
+pub use item::Item;
 pub use kind::{Kind, Kinds};
 pub use name::Name;
 pub use operator::{Bin, Rel, apply2, holds};
