@@ -1,6 +1,6 @@
 -- Where a doing leads: frames, calls, throws and initialisers (JVMS SE 8, sections 2.6, 2.10, 5.5, 6.5).
 -- Of the program only views are read.
-use Rattle.std.specs.Prelude.{ℕ, suc, Bool, cond, nat_le, List, [], ◌∷◌, ◌++◌, length, map, Option, Some, None, slice_get}
+use Rattle.std.specs.Prelude.{ℕ, suc, cond, nat_le, List, [], ◌∷◌, length, map, Option, Some, None, slice_get}
 use Rattle.ms_words.specs.Throwables.{is_a}
 use Rattle.ms_words.specs.declared.thrown.Thrown.{Thrown}
 use Rattle.ms_words.specs.declared.item.Item.{Item}

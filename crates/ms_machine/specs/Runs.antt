@@ -1,5 +1,5 @@
 -- Runs of inputs: strings of arms, ends, footprints, and which inputs take a string.
-use Rattle.std.specs.Prelude.{◌≡◌, ℕ, zero, suc, ℤ, IsTrue, List, [], ◌∷◌, ◌++◌, length, map, Option, Some, None}
+use Rattle.std.specs.Prelude.{◌≡◌, ℕ, zero, suc, ℤ, IsTrue, List, [], ◌∷◌, ◌++◌, length}
 use Rattle.ms_words.specs.declared.item.Item.{Item}
 use Rattle.ms_words.specs.declared.item.Item.TheVariants.{Entry}
 use Rattle.ms_words.specs.declared.kind.Kind.{Kind}
@@ -7,7 +7,7 @@ use Rattle.ms_words.specs.Inputs.{Words, are_of, comes_before}
 use Rattle.ms_words.specs.Items.{firsts}
 use Rattle.ms_words.specs.Relations.{related}
 use Rattle.ms_terms.specs.Terms.{Term, Param, value}
-use Rattle.ms_machine.specs.Ints.{Ints, Int, ints, shadows}
+use Rattle.ms_machine.specs.Ints.{Ints, Int, ints}
 use Rattle.ms_machine.specs.Effects.{Test, End}
 use Rattle.ms_machine.specs.Control.{Program, Done, Ends, start}
 use Rattle.ms_machine.specs.Tests.{Literal, arm_of, literals, map_test}

@@ -2,7 +2,7 @@
 -- relation 0 falls through and 1 is taken; of a divisor 0 is nonzero and 1 zero; of a switch the cases in
 -- table order and then the default; of an index k is index k, and the arm numbered by the length is out
 -- of range.
-use Rattle.std.specs.Prelude.{ℕ, zero, suc, ℤ, pos, negsuc, Bool, true, false, cond, nat_lt, List, [], ◌∷◌, length, Option, Some, None}
+use Rattle.std.specs.Prelude.{ℕ, zero, suc, ℤ, pos, negsuc, cond, nat_lt, List, [], ◌∷◌, length, Option, Some, None}
 use Rattle.ms_words.specs.declared.operator.Rel.{Rel}
 use Rattle.ms_words.specs.declared.operator.Rel.TheVariants.{Eq, Ne, Lt, Ge, Gt, Le, Uge}
 use Rattle.ms_words.specs.Relations.{int_eq, related}

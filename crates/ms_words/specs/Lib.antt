@@ -4,3 +4,4 @@ pub mod Relations
 pub mod Padding
 pub mod Inputs
 pub mod Kept
+pub mod Items

@@ -1,5 +1,5 @@
 -- The tree of throwable classes that the machine knows, all of java.lang.
-use Rattle.std.specs.Prelude.{ℕ, List, [], ◌∷◌, Option, Some, None, codes, find}
+use Rattle.std.specs.Prelude.{ℕ, zero, suc, List, [], ◌∷◌, Bool, false, ◌||◌, ◌==◌, Option, Some, None, codes, find}
 use Rattle.std.specs.Str.{bytes_eq}
 use Rattle.ms_words.specs.declared.thrown.Thrown.{Thrown}
 use Rattle.ms_words.specs.declared.thrown.Thrown.TheVariants.{Throwable, Exception, Error, RuntimeException, Arithmetic, IndexOutOfBounds, NegativeArraySize, NullPointer, IllegalArgument, IllegalState, UnsupportedOperation, ArrayIndexOutOfBounds}
@@ -42,3 +42,28 @@ every_thrown = Throwable ∷ Exception ∷ Error ∷ RuntimeException ∷ Arithm
 -- the class of this name
 abbrev pub thrown_named : List ℕ → Option Thrown
 thrown_named name = find (λ thrown. bytes_eq (class_name thrown) name) every_thrown
+
+-- the place of a class in their order
+abbrev pub number_of : Thrown → ℕ
+number_of Throwable = 0
+number_of Exception = 1
+number_of Error = 2
+number_of RuntimeException = 3
+number_of Arithmetic = 4
+number_of IndexOutOfBounds = 5
+number_of NegativeArraySize = 6
+number_of NullPointer = 7
+number_of IllegalArgument = 8
+number_of IllegalState = 9
+number_of UnsupportedOperation = 10
+number_of ArrayIndexOutOfBounds = 11
+
+-- whether the class or one above it is the other one, looking at most so many classes up
+abbrev pub is_below : ℕ → Option Thrown → Thrown → Bool
+is_below n None other = false
+is_below zero (Some class) other = false
+is_below (suc n) (Some class) other = (number_of class == number_of other) || is_below n (parent class) other
+
+-- whether the class is the other one or stands below it; no class stands more than four below Throwable
+abbrev pub is_a : Thrown → Thrown → Bool
+is_a class other = is_below 5 (Some class) other
