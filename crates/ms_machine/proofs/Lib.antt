@@ -1,1 +1,7 @@
 mod Example
+pub mod EffectMap
+pub mod ControlMap
+pub mod RunMap
+pub mod Values
+pub mod Back
+pub mod Runs

@@ -4,3 +4,5 @@ pub mod Control
 pub mod Tests
 pub mod Segments
 pub mod Runs
+pub mod Maps
+pub mod Laws

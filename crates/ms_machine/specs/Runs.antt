@@ -25,14 +25,15 @@ abbrev pub after_arms : {V : Type 0} → Ints V → Program → Done V → List 
 after_arms I P done [] = done
 after_arms I P done (arm ∷ arms) = after_arms I P (done_after (segment_from I P done).after arm) arms
 
+-- the arm of a choice, by `decide`, and those after it
+abbrev pub arms_at : {V : Type 0} → (Test V → ℕ) → (Done V → List ℕ) → After V → List ℕ
+arms_at decide go (Choice test arms) = decide test ∷ go (arms (decide test))
+arms_at decide go (Over end) = []
+
 -- the arms of the first choices, at most so many, where each test takes the arm that `decide` says
 abbrev pub string_from : {V : Type 0} → Ints V → Program → (Test V → ℕ) → ℕ → Done V → List ℕ
 string_from I P decide zero done = []
-string_from I P decide (suc depth) done = string_at decide (λ next. string_from I P decide depth next) (segment_from I P done).after
-  where
-    string_at : {V : Type 0} → (Test V → ℕ) → (Done V → List ℕ) → After V → List ℕ
-    string_at decide go (Choice test arms) = decide test ∷ go (arms (decide test))
-    string_at decide go (Over end) = []
+string_from I P decide (suc depth) done = arms_at decide (string_from I P decide depth) (segment_from I P done).after
 
 -- RUNS OF ONE INPUT
 

@@ -1,0 +1,75 @@
+-- The laws over whole runs.
+use Rattle.std.proofs.Common.{◌≡◌, ℕ, zero, suc, ℤ, List, [], ◌∷◌, map, refl, sym, ap, ◌∙◌}
+use Rattle.ms_words.specs.Inputs.{Words}
+use Rattle.ms_words.specs.Items.{firsts}
+use Rattle.ms_words.specs.declared.kind.Kind.{Kind}
+use Rattle.ms_terms.specs.Terms.{Term}
+use Rattle.ms_machine.specs.Ints.{Ints, Int, Marked, ints, marks, shadows}
+use Rattle.ms_machine.specs.Effects.{Test, Compares, Divides, Selects, Indexes, Value, Int as Whole, Null, Array, Text, Throwable, Doing, End, Returned, ReturnedVoid, Threw, InitFailed, Missing, Runaway, Deep, SymLength, HeapFull, Stuck}
+use Rattle.ms_machine.specs.Control.{Program, Done, Goes, Ends, start}
+use Rattle.ms_machine.specs.Tests.{arm_of, map_test}
+use Rattle.ms_machine.specs.Segments.{After, Choice, Over, Segment, segment_from, segment_within}
+use Rattle.ms_machine.specs.Runs.{after_arms, arms_at, footprint, given, segment_after, started, string, string_from, with_entry, word_arm}
+use Rattle.ms_machine.specs.Maps.{Respects, map_after, map_done, map_segment}
+use Rattle.ms_machine.specs.Laws.{IsWhole, MarksAreRight, SharesShadows, WordsAreValues, int_of, mark_arm, mark_of, parameters_from, shadow_after, shadow_started}
+use Rattle.ms_machine.proofs.ControlMap.{start_map}
+use Rattle.ms_machine.proofs.RunMap.{after_arms_map, segment_from_map, segment_map}
+use Rattle.ms_machine.proofs.Back.{segment_back}
+use Rattle.ms_machine.proofs.Values.{given_values, marks_respect, values_respect}
+
+-- strings, where both decide alike
+module _ {V W : Type 0} (I : Ints V) (J : Ints W) (f : V → W) (r : Respects I J f) (decide : Test V → ℕ) (decide' : Test W → ℕ) (alike : (test : Test V) → decide' (map_test f test) ≡ decide test) where
+  arms_at_map : (after : After V) (go : Done V → List ℕ) (go' : Done W → List ℕ) → ((done : Done V) → go' (map_done f done) ≡ go done) → arms_at decide' go' (map_after f after) ≡ arms_at decide go after
+  arms_at_map (Choice test arms) go go' same =
+      ap (λ arm. arm ∷ go' (map_done f (arms arm))) (alike test) ∙ ap (λ string. decide test ∷ string) (same (arms (decide test)))
+  arms_at_map (Over end) go go' same = refl
+
+  pub string_map : (P : Program) (depth : ℕ) (done : Done V) → string_from J P decide' depth (map_done f done) ≡ string_from I P decide depth done
+  string_map P zero done = refl
+  string_map P (suc depth) done =
+      ap (λ segment. arms_at decide' (string_from J P decide' depth) segment.after) (segment_from_map I J f r P done)
+      ∙ arms_at_map (segment_from I P done).after (string_from I P decide depth) (string_from J P decide' depth) (string_map P depth)
+
+-- THE WORDS
+
+pub started_values : (P : Program) (x : Words) → IsWhole x → started P x ≡ map_done (int_of x.words) (shadow_started P x.kinds)
+started_values P x whole = ap (start P) (given_values x whole) ∙ start_map (int_of x.words) P (parameters_from 0 x.kinds)
+
+pub words_are_values : (P : Program) (x : Words) → IsWhole x → WordsAreValues P x
+words_are_values P x whole =
+    let run : (p : List ℕ) → after_arms ints P (started P x) p ≡ map_done (int_of x.words) (after_arms shadows P (shadow_started P x.kinds) p) =
+    λ p. ap (λ done. after_arms ints P done p) (started_values P x whole) ∙ after_arms_map shadows ints (int_of x.words) (values_respect x.words) P p (shadow_started P x.kinds) in
+    record {
+      run = run;
+      steps = λ p n. ap (segment_within ints P n) (run p) ∙ segment_map shadows ints (int_of x.words) (values_respect x.words) P n (after_arms shadows P (shadow_started P x.kinds) p);
+    }
+
+-- THE MARKS
+
+mark_alike : (test : Test Int) → mark_arm (map_test mark_of test) ≡ word_arm test
+mark_alike (Compares rel a b) = refl
+mark_alike (Divides b) = refl
+mark_alike (Selects a keys) = refl
+mark_alike (Indexes a len) = refl
+
+pub marks_are_right : (P : Program) (x : Words) → MarksAreRight P x
+marks_are_right P x = record {
+  choices = λ depth. string_map ints marks mark_of marks_respect word_arm mark_arm mark_alike P depth (started P x);
+  segments = λ p. ap (segment_from marks P) (after_arms_map ints marks mark_of marks_respect P p (started P x))
+      ∙ segment_from_map ints marks mark_of marks_respect P (after_arms ints P (started P x) p);
+}
+
+-- ANY TWO INPUTS
+
+segment_values : (P : Program) (x : Words) → IsWhole x → (p : List ℕ) → segment_after P x p ≡ map_segment (int_of x.words) (shadow_after P x.kinds p)
+segment_values P x whole p =
+    ap (λ done. segment_from ints P (after_arms ints P done p)) (started_values P x whole)
+    ∙ ap (segment_from ints P) (after_arms_map shadows ints (int_of x.words) (values_respect x.words) P p (shadow_started P x.kinds))
+    ∙ segment_from_map shadows ints (int_of x.words) (values_respect x.words) P (after_arms shadows P (shadow_started P x.kinds) p)
+
+pub inputs_share_shadows : (P : Program) (x : Words) → IsWhole x → SharesShadows P x
+inputs_share_shadows P x whole = record {
+  segments = λ p. ap (map_segment (λ (a : Int). a.shadow)) (segment_values P x whole p)
+      ∙ segment_back (int_of x.words) (λ (a : Int). a.shadow) (λ term. refl) (shadow_after P x.kinds p);
+  footprints = λ p. ap (λ (segment : Segment Int). firsts (with_entry p segment.trace)) (segment_values P x whole p);
+}

@@ -1,0 +1,65 @@
+-- Laws of the machine over whole runs, and the runs that they compare.
+use Rattle.std.specs.Prelude.{◌≡◌, ℕ, zero, suc, ℤ, List, [], ◌∷◌, length}
+use Rattle.ms_words.specs.declared.kind.Kind.{Kind}
+use Rattle.ms_words.specs.Inputs.{Words}
+use Rattle.ms_words.specs.Items.{firsts}
+use Rattle.ms_terms.specs.Terms.{Term, Param, is_constant, value}
+use Rattle.ms_machine.specs.Ints.{Int, Marked, ints, marks, shadows}
+use Rattle.ms_machine.specs.Effects.{Test, Instr, Push, Load, Combine, Compare, CompareZero, ReturnValue}
+use Rattle.ms_machine.specs.Control.{Program, View, Done, start}
+use Rattle.ms_machine.specs.Tests.{Literal, arm_of, arms_of, map_test}
+use Rattle.ms_machine.specs.Segments.{After, Choice, Over, Segment, segment_from, segment_within}
+use Rattle.ms_machine.specs.Runs.{IsMet, Takes, after_arms, footprint, segment_after, started, string, string_from, way, with_entry}
+use Rattle.ms_machine.specs.Maps.{map_done, map_segment}
+
+-- there is one word for each kind
+abbrev pub IsWhole : Words → Type 0
+IsWhole x = length x.words ≡ length x.kinds
+
+-- THE MACHINE WITHOUT AN INPUT
+
+-- the parameters as terms
+abbrev pub parameters_from : ℕ → List Kind → List Term
+parameters_from index [] = []
+parameters_from index (kind ∷ kinds) = Param index kind ∷ parameters_from (suc index) kinds
+
+abbrev pub shadow_started : Program → List Kind → Done Term
+shadow_started P kinds = start P (parameters_from 0 kinds)
+
+-- the segment after p, of terms alone
+abbrev pub shadow_after : Program → List Kind → List ℕ → Segment Term
+shadow_after P kinds p = segment_from shadows P (after_arms shadows P (shadow_started P kinds) p)
+
+-- the int of a term, where the parameters are these words
+abbrev pub int_of : List ℤ → Term → Int
+int_of words term = record { word = value words term; shadow = term }
+
+-- The word of every int is the value of its shadow on the input: a run of x is that of terms, each with
+-- its value, after any arms and within any number of instructions.
+pub record WordsAreValues (P : Program) (x : Words) : Type 0 where
+  pub run : (p : List ℕ) → after_arms ints P (started P x) p ≡ map_done (int_of x.words) (after_arms shadows P (shadow_started P x.kinds) p)
+  pub steps : (p : List ℕ) (n : ℕ) → segment_within ints P n (after_arms ints P (started P x) p)
+      ≡ map_segment (int_of x.words) (segment_within shadows P n (after_arms shadows P (shadow_started P x.kinds) p))
+
+-- THE MACHINE WITH MARKS
+
+-- an int with the mark that says whether a parameter entered it
+abbrev pub mark_of : Int → Marked
+mark_of a = record { word = a.word; plain = is_constant a.shadow }
+
+abbrev pub mark_arm : Test Marked → ℕ
+mark_arm test = arm_of (map_test (λ a. a.word) test)
+
+-- The machine with marks runs as the one with shadows: it has the same choices, takes the same arms,
+-- executes the same items, and ends alike.
+pub record MarksAreRight (P : Program) (x : Words) : Type 0 where
+  pub choices : (depth : ℕ) → string_from marks P mark_arm depth (map_done mark_of (started P x)) ≡ string P x depth
+  pub segments : (p : List ℕ) → segment_from marks P (after_arms marks P (map_done mark_of (started P x)) p) ≡ map_segment mark_of (segment_after P x p)
+
+-- ANY TWO INPUTS
+
+-- The segment after p, with the words left out, is the same for all inputs of the kinds, whether they
+-- take p or not: the same shadows, the same control flow, the same items.
+pub record SharesShadows (P : Program) (x : Words) : Type 0 where
+  pub segments : (p : List ℕ) → map_segment (λ (a : Int). a.shadow) (segment_after P x p) ≡ shadow_after P x.kinds p
+  pub footprints : (p : List ℕ) → footprint P x p ≡ firsts (with_entry p (shadow_after P x.kinds p).trace)
