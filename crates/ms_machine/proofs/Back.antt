@@ -1,11 +1,10 @@
 -- A map of ints that another one undoes.
-use Rattle.std.proofs.Common.{◌≡◌, ℕ, List, [], ◌∷◌, map, Option, Some, None, refl, ap}
-use Rattle.std.specs.Option.{option_map}
+use Rattle.std.proofs.Common.{◌≡◌, List, [], ◌∷◌, map, refl, ap}
 use Rattle.ms_machine.specs.Effects.{Value, Int, Null, Array, Text, Throwable, Static, Memory, End, Returned, ReturnedVoid, Threw, InitFailed, Missing, Runaway, Deep, SymLength, HeapFull, Stuck, Test, Compares, Divides, Selects, Indexes}
-use Rattle.ms_machine.specs.Control.{Frame, State, Done, Goes, Ends}
+use Rattle.ms_machine.specs.Control.{Frame, Done, Goes, Ends}
 use Rattle.ms_machine.specs.Tests.{map_test}
 use Rattle.ms_machine.specs.Segments.{After, Choice, Over, Segment}
-use Rattle.ms_machine.specs.Maps.{map_after, map_done, map_end, map_frame, map_memory, map_segment, map_state, map_static, map_value, map_values}
+use Rattle.ms_machine.specs.Maps.{map_after, map_done, map_end, map_frame, map_memory, map_segment, map_static, map_value, map_values}
 
 list_back : {A B : Type 0} (f : A → B) (g : B → A) → ((a : A) → g (f a) ≡ a) → (xs : List A) → map g (map f xs) ≡ xs
 list_back f g each [] = refl

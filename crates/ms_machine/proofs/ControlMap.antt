@@ -1,13 +1,13 @@
 -- Where a doing leads commutes with a map of ints, and so do steps.
-use Rattle.std.proofs.Common.{◌≡◌, ℕ, zero, suc, Bool, true, false, cond, nat_le, List, [], ◌∷◌, map, length, Option, Some, None, refl, sym, ap, ◌∙◌, slice_get}
+use Rattle.std.proofs.Common.{◌≡◌, ℕ, suc, Bool, true, false, cond, nat_le, List, [], ◌∷◌, map, length, Option, Some, None, refl, ap, ◌∙◌}
 use Rattle.std.specs.Option.{option_map}
 use Rattle.std.proofs.lemmas.List.{length-map}
 use Rattle.ms_words.specs.declared.item.Item.{Item}
 use Rattle.ms_words.specs.declared.thrown.Thrown.{Thrown}
 use Rattle.ms_machine.specs.Ints.{Ints}
-use Rattle.ms_machine.specs.Effects.{Value, Int, Throwable, Memory, Here, End, Threw, InitFailed, Deep, Stuck, Doing, Moves, Calls, Initialises, Returns, Raises, Stops, Effect, Does, Asks, effect}
-use Rattle.ms_machine.specs.Control.{Program, View, Initialiser, NoInitialiser, Begins, Foreign, Frame, State, Done, Goes, Ends, Step, Then, Chooses, catching, caught, enters, entry_frame, goes_on, here_of, leaving, left_with, most_frames, onto, opened, perform, performed, place, returned_with, returns, start, step, throws, viewed}
-use Rattle.ms_machine.specs.Maps.{Respects, map_doing, map_done, map_effect, map_end, map_frame, map_here, map_memory, map_state, map_step, map_value, map_values}
+use Rattle.ms_machine.specs.Effects.{Value, Int, Throwable, Memory, Deep, Doing, Moves, Calls, Initialises, Returns, Raises, Stops, Effect, Does, Asks, effect}
+use Rattle.ms_machine.specs.Control.{Program, View, Initialiser, NoInitialiser, Begins, Foreign, Frame, State, Done, Goes, Ends, Then, Chooses, catching, caught, enters, entry_frame, goes_on, here_of, leaving, left_with, most_frames, onto, opened, perform, performed, place, returned_with, returns, start, step, throws, viewed}
+use Rattle.ms_machine.specs.Maps.{Respects, map_doing, map_done, map_effect, map_end, map_frame, map_memory, map_state, map_step, map_value, map_values}
 use Rattle.ms_machine.specs.Tests.{map_test}
 use Rattle.ms_machine.proofs.EffectMap.{effect_map}
 

@@ -1,8 +1,8 @@
 -- An effect commutes with a map of ints.
-use Rattle.std.proofs.Common.{◌≡◌, ℕ, zero, suc, ℤ, pos, List, [], ◌∷◌, map, Option, Some, None, refl, sym, ap, ◌∙◌, slice_get}
+use Rattle.std.proofs.Common.{◌≡◌, ℕ, zero, suc, pos, List, [], ◌∷◌, map, Option, Some, None, refl, sym, ap, ◌∙◌, slice_get}
 use Rattle.std.specs.Option.{option_map}
 use Rattle.ms_machine.specs.Ints.{Ints}
-use Rattle.ms_machine.specs.Effects.{Value, Int, Null, Array, Text, Throwable, Memory, Here, End, Doing, Moves, Calls, Initialises, Returns, Raises, Stops, Effect, Does, Asks, Instr, Push, Load, Combine, Compare, CompareZero, ReturnValue, Compares, as_int, by_arm, effect, jump, next, on_int, on_some, on_top}
+use Rattle.ms_machine.specs.Effects.{Value, Int, Null, Array, Text, Throwable, Here, Doing, Effect, Does, Asks, Instr, Push, Load, Combine, Compare, CompareZero, ReturnValue, Compares, as_int, by_arm, effect, jump, next, on_int, on_some, on_top}
 use Rattle.ms_machine.specs.Maps.{Respects, map_doing, map_effect, map_here, map_value, map_values}
 
 slice_get_map : {A B : Type 0} (f : A → B) (xs : List A) (i : ℕ) → slice_get (map f xs) i ≡ option_map f (slice_get xs i)

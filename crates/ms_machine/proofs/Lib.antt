@@ -5,3 +5,5 @@ pub mod RunMap
 pub mod Values
 pub mod Back
 pub mod Runs
+pub mod Literals
+pub mod Paths

@@ -1,14 +1,12 @@
 -- Segments, strings and what comes after arms commute with a map of ints.
-use Rattle.std.proofs.Common.{◌≡◌, ℕ, zero, suc, ℤ, List, [], ◌∷◌, map, Option, Some, None, refl, sym, ap, ◌∙◌}
-use Rattle.ms_words.specs.declared.item.Item.{Item}
-use Rattle.ms_words.specs.declared.operator.Rel.{Rel}
+use Rattle.std.proofs.Common.{◌≡◌, ℕ, zero, suc, ℤ, List, [], ◌∷◌, Option, Some, None, refl, ap, ◌∙◌}
 use Rattle.ms_machine.specs.Ints.{Ints}
 use Rattle.ms_machine.specs.Effects.{Test, Compares, Divides, Selects, Indexes}
 use Rattle.ms_machine.specs.Control.{Program, Done, Goes, Ends, Step, Then, Chooses, step}
 use Rattle.ms_machine.specs.Tests.{arm_of, both_known, known_test, map_test, one_known}
 use Rattle.ms_machine.specs.Segments.{After, Choice, Over, Segment, followed, forked, item_then, most_instructions, segment_from, segment_within}
-use Rattle.ms_machine.specs.Runs.{after_arms, done_after, string_from}
-use Rattle.ms_machine.specs.Maps.{Respects, map_after, map_done, map_segment, map_state, map_step}
+use Rattle.ms_machine.specs.Runs.{after_arms, done_after}
+use Rattle.ms_machine.specs.Maps.{Respects, map_after, map_done, map_segment, map_step}
 use Rattle.ms_machine.proofs.ControlMap.{step_map}
 
 module _ {V W : Type 0} (I : Ints V) (J : Ints W) (f : V → W) (r : Respects I J f) where

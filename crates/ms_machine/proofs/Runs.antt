@@ -1,15 +1,13 @@
 -- The laws over whole runs.
-use Rattle.std.proofs.Common.{◌≡◌, ℕ, zero, suc, ℤ, List, [], ◌∷◌, map, refl, sym, ap, ◌∙◌}
+use Rattle.std.proofs.Common.{◌≡◌, ℕ, zero, suc, List, ◌∷◌, refl, ap, ◌∙◌}
 use Rattle.ms_words.specs.Inputs.{Words}
 use Rattle.ms_words.specs.Items.{firsts}
-use Rattle.ms_words.specs.declared.kind.Kind.{Kind}
-use Rattle.ms_terms.specs.Terms.{Term}
-use Rattle.ms_machine.specs.Ints.{Ints, Int, Marked, ints, marks, shadows}
-use Rattle.ms_machine.specs.Effects.{Test, Compares, Divides, Selects, Indexes, Value, Int as Whole, Null, Array, Text, Throwable, Doing, End, Returned, ReturnedVoid, Threw, InitFailed, Missing, Runaway, Deep, SymLength, HeapFull, Stuck}
-use Rattle.ms_machine.specs.Control.{Program, Done, Goes, Ends, start}
-use Rattle.ms_machine.specs.Tests.{arm_of, map_test}
+use Rattle.ms_machine.specs.Ints.{Ints, Int, ints, marks, shadows}
+use Rattle.ms_machine.specs.Effects.{Test, Compares, Divides, Selects, Indexes}
+use Rattle.ms_machine.specs.Control.{Program, Done, start}
+use Rattle.ms_machine.specs.Tests.{map_test}
 use Rattle.ms_machine.specs.Segments.{After, Choice, Over, Segment, segment_from, segment_within}
-use Rattle.ms_machine.specs.Runs.{after_arms, arms_at, footprint, given, segment_after, started, string, string_from, with_entry, word_arm}
+use Rattle.ms_machine.specs.Runs.{after_arms, arms_at, segment_after, started, string_from, with_entry, word_arm}
 use Rattle.ms_machine.specs.Maps.{Respects, map_after, map_done, map_segment}
 use Rattle.ms_machine.specs.Laws.{IsWhole, MarksAreRight, SharesShadows, WordsAreValues, int_of, mark_arm, mark_of, parameters_from, shadow_after, shadow_started}
 use Rattle.ms_machine.proofs.ControlMap.{start_map}

@@ -1,11 +1,11 @@
 -- The kinds of ints are images of one another.
-use Rattle.std.proofs.Common.{◌≡◌, ℕ, zero, suc, ◌+◌, ℤ, pos, Bool, true, false, ◌&&◌, cond, List, [], ◌∷◌, ◌++◌, map, length, Option, Some, None, slice_get, unwrap_or, refl, sym, ap, ◌∙◌, arith, append_assoc, length-append}
+use Rattle.std.proofs.Common.{◌≡◌, suc, ℤ, pos, ◌&&◌, cond, List, [], ◌∷◌, ◌++◌, map, length, Some, None, slice_get, unwrap_or, refl, sym, ap, ◌∙◌, arith, append_assoc, length-append}
 use Rattle.ms_words.specs.declared.kind.Kind.{Kind}
 use Rattle.ms_words.specs.declared.operator.Bin.{Bin}
 use Rattle.ms_words.specs.Words.{applied2}
 use Rattle.ms_words.specs.Inputs.{Words}
 use Rattle.ms_terms.specs.Terms.{Term, Constant, Param, Binary, binary, constant_of, is_constant, value}
-use Rattle.ms_machine.specs.Ints.{Ints, Int, Marked, ints, marks, shadows}
+use Rattle.ms_machine.specs.Ints.{ints, marks, shadows}
 use Rattle.ms_machine.specs.Maps.{Respects}
 use Rattle.ms_machine.specs.Runs.{given, given_from}
 use Rattle.ms_machine.specs.Laws.{IsWhole, int_of, mark_of, parameters_from}

@@ -1,5 +1,9 @@
 -- Laws of the machine over whole runs, and the runs that they compare.
-use Rattle.std.specs.Prelude.{◌≡◌, ℕ, zero, suc, ℤ, List, [], ◌∷◌, length}
+use Rattle.std.specs.Prelude.{◌≡◌, ℕ, suc, ◌<◌, ◌↔◌, ℤ, List, [], ◌∷◌, ◌++◌, length, Some}
+use Rattle.std.specs.List.{AllByRecursion}
+use Rattle.ms_words.specs.declared.item.Item.{Item}
+use Rattle.ms_words.specs.declared.operator.Rel.{Rel}
+use Rattle.ms_words.specs.declared.operator.Rel.TheVariants.{Eq, Ne, Lt, Ge, Gt, Le, Uge}
 use Rattle.ms_words.specs.declared.kind.Kind.{Kind}
 use Rattle.ms_words.specs.Inputs.{Words}
 use Rattle.ms_words.specs.Items.{firsts}
@@ -63,3 +67,42 @@ pub record MarksAreRight (P : Program) (x : Words) : Type 0 where
 pub record SharesShadows (P : Program) (x : Words) : Type 0 where
   pub segments : (p : List ℕ) → map_segment (λ (a : Int). a.shadow) (segment_after P x p) ≡ shadow_after P x.kinds p
   pub footprints : (p : List ℕ) → footprint P x p ≡ firsts (with_entry p (shadow_after P x.kinds p).trace)
+
+-- WHICH INPUTS TAKE A STRING
+
+-- a relation that an instruction may have: each but the one of an index
+abbrev pub IsOrdinary : Rel → Type 0
+IsOrdinary Eq = Unit {0}
+IsOrdinary Ne = Unit {0}
+IsOrdinary Lt = Unit {0}
+IsOrdinary Ge = Unit {0}
+IsOrdinary Gt = Unit {0}
+IsOrdinary Le = Unit {0}
+IsOrdinary Uge = ⊥
+
+abbrev pub IsOrdinaryInstr : Instr → Type 0
+IsOrdinaryInstr (Push word) = Unit {0}
+IsOrdinaryInstr (Load local) = Unit {0}
+IsOrdinaryInstr (Combine op) = Unit {0}
+IsOrdinaryInstr (Compare rel) = IsOrdinary rel
+IsOrdinaryInstr (CompareZero rel) = IsOrdinary rel
+IsOrdinaryInstr ReturnValue = Unit {0}
+
+-- what a decoder makes sure of: each branch has one of the six relations of the instruction set
+pub record IsDecoded (P : Program) : Type 0 where
+  pub instrs : (item : Item) (view : View) → P.view item ≡ Some view → IsOrdinaryInstr view.instr
+
+-- a choice comes, and has this arm
+abbrev pub HasArm : {V : Type 0} → After V → ℕ → Type 0
+HasArm (Choice test arms) arm = arm < arms_of test
+HasArm (Over end) arm = ⊥
+
+-- the literals on the way through p, over the parameters
+abbrev pub condition : Program → List Kind → List ℕ → List (Literal Term)
+condition P kinds p = way shadows P (shadow_started P kinds) p
+
+-- Where some input takes p, and arm is one of the choice after it: x takes p with that arm exactly where
+-- it makes true all literals on the way through p and those of the arm.
+abbrev pub LawOfTheString : Program → Type 0
+LawOfTheString P = (x y : Words) → IsWhole x → IsWhole y → x.kinds ≡ y.kinds → (p : List ℕ) (arm : ℕ) → Takes P y p → HasArm (shadow_after P x.kinds p).after arm
+    → Takes P x (p ++ arm ∷ []) ↔ AllByRecursion (IsMet x) (condition P x.kinds (p ++ arm ∷ []))

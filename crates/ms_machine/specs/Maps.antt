@@ -1,5 +1,5 @@
 -- What a map of ints makes of states, segments and what comes after them.
-use Rattle.std.specs.Prelude.{◌≡◌, ℕ, ℤ, List, [], ◌∷◌, map, Option, Some, None}
+use Rattle.std.specs.Prelude.{◌≡◌, ℤ, List, map}
 use Rattle.std.specs.Option.{option_map}
 use Rattle.ms_words.specs.declared.operator.Bin.{Bin}
 use Rattle.ms_machine.specs.Ints.{Ints}

@@ -1,6 +1,6 @@
 ghost use Rattle.ms_words.specs.Inputs.{Words};
 ghost use Rattle.ms_machine.specs.Control.{Program};
-ghost use Rattle.ms_machine.specs.Laws.{IsWhole, MarksAreRight, SharesShadows, WordsAreValues};
+ghost use Rattle.ms_machine.specs.Laws.{IsDecoded, IsWhole, LawOfTheString, MarksAreRight, SharesShadows, WordsAreValues};
 
 /// The word of every int is the value of its shadow on the input, after any number of steps. It does
 /// nothing.
@@ -19,4 +19,11 @@ pub fn marks_are_right()
 /// nothing.
 pub fn inputs_share_shadows()
     ensures { (P : Program) (x : Words) → IsWhole x → SharesShadows P x }
+{}
+
+/// Where some input takes a string and an arm is one of the choice that comes after it, an input of the
+/// same kinds takes the string with that arm exactly where it makes true each literal on the way through
+/// the string and those of the arm. It does nothing.
+pub fn takes_where_literals_hold()
+    ensures { (P : Program) → IsDecoded P → LawOfTheString P }
 {}

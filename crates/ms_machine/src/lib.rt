@@ -7,4 +7,6 @@
 
 mod laws;
 
-pub use laws::{inputs_share_shadows, marks_are_right, words_are_values};
+pub use laws::{
+    inputs_share_shadows, marks_are_right, takes_where_literals_hold, words_are_values,
+};
