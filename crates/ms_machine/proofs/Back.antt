@@ -1,5 +1,6 @@
 -- A map of ints that another one undoes.
-use Rattle.std.proofs.Common.{◌≡◌, List, [], ◌∷◌, map, refl, ap}
+use Rattle.std.proofs.Common.{◌≡◌, List, [], ◌∷◌, map, Option, Some, None, refl, ap}
+use Rattle.std.specs.Option.{option_map}
 use Rattle.ms_machine.specs.Effects.{Value, Int, Null, Array, Text, Throwable, Static, Memory, End, Returned, ReturnedVoid, Threw, InitFailed, Missing, Runaway, Deep, SymLength, HeapFull, Stuck, Test, Compares, Divides, Selects, Indexes}
 use Rattle.ms_machine.specs.Control.{Frame, Done, Goes, Ends}
 use Rattle.ms_machine.specs.Tests.{map_test}
@@ -21,8 +22,12 @@ module _ {V W : Type 0} (f : V → W) (g : W → V) (each : (a : V) → g (f a) 
   values_back : (vs : List (Value V)) → map_values g (map_values f vs) ≡ vs
   values_back vs = list_back (map_value f) (map_value g) value_back vs
 
+  held_back : (held : Option (Value V)) → option_map (map_value g) (option_map (map_value f) held) ≡ held
+  held_back None = refl
+  held_back (Some v) = ap (λ w. Some w) (value_back v)
+
   static_back : (static : Static V) → map_static g (map_static f static) ≡ static
-  static_back static = λ i. record { class = static.class; name = static.name; value = value_back static.value i }
+  static_back static = λ i. record { class = static.class; name = static.name; descriptor = static.descriptor; value = value_back static.value i }
 
   memory_back : (memory : Memory V) → map_memory g (map_memory f memory) ≡ memory
   memory_back memory = λ i. record {
@@ -33,7 +38,7 @@ module _ {V W : Type 0} (f : V → W) (g : W → V) (each : (a : V) → g (f a) 
   }
 
   end_back : (end : End V) → map_end g (map_end f end) ≡ end
-  end_back (Returned v) = ap Returned (value_back v)
+  end_back (Returned v) = ap Returned (each v)
   end_back ReturnedVoid = refl
   end_back (Threw class) = refl
   end_back (InitFailed class) = refl
@@ -45,7 +50,7 @@ module _ {V W : Type 0} (f : V → W) (g : W → V) (each : (a : V) → g (f a) 
   end_back Stuck = refl
 
   frame_back : (frame : Frame V) → map_frame g (map_frame f frame) ≡ frame
-  frame_back frame = λ i. record { at = frame.at; locals = values_back frame.locals i; stack = values_back frame.stack i; initialises = frame.initialises }
+  frame_back frame = λ i. record { at = frame.at; locals = list_back (option_map (map_value f)) (option_map (map_value g)) held_back frame.locals i; stack = values_back frame.stack i; initialises = frame.initialises }
 
   done_back : (done : Done V) → map_done g (map_done f done) ≡ done
   done_back (Goes state) = λ i. Goes (record {

@@ -5,9 +5,9 @@ use Rattle.std.proofs.lemmas.List.{length-map}
 use Rattle.ms_words.specs.declared.item.Item.{Item}
 use Rattle.ms_words.specs.declared.thrown.Thrown.{Thrown}
 use Rattle.ms_machine.specs.Ints.{Ints}
-use Rattle.ms_machine.specs.Effects.{Value, Int, Throwable, Memory, Deep, Doing, Moves, Calls, Initialises, Returns, Raises, Stops, Effect, Does, Asks, effect}
-use Rattle.ms_machine.specs.Control.{Program, View, Initialiser, NoInitialiser, Begins, Foreign, Frame, State, Done, Goes, Ends, Then, Chooses, catching, caught, enters, entry_frame, goes_on, here_of, leaving, left_with, most_frames, onto, opened, perform, performed, place, returned_with, returns, start, step, throws, viewed}
-use Rattle.ms_machine.specs.Maps.{Respects, map_doing, map_done, map_effect, map_end, map_frame, map_memory, map_state, map_step, map_value, map_values}
+use Rattle.ms_machine.specs.Effects.{Value, Int, Null, Array, Text, Throwable, Memory, Deep, Doing, Moves, Calls, Initialises, Returns, Raises, Stops, Effect, Does, Asks, effect}
+use Rattle.ms_machine.specs.Control.{Program, View, Views, Initialiser, NoInitialiser, Begins, Foreign, Frame, State, Done, Goes, Ends, Then, Chooses, catching, caught, enters, entry_frame, goes_on, here_of, leaving, left_with, most_frames, onto, opened, perform, performed, place, returned_with, returns, start, step, throws, viewed}
+use Rattle.ms_machine.specs.Maps.{Respects, map_doing, map_done, map_effect, map_end, map_frame, map_locals, map_memory, map_state, map_step, map_value, map_values}
 use Rattle.ms_machine.specs.Tests.{map_test}
 use Rattle.ms_machine.proofs.EffectMap.{effect_map}
 
@@ -31,13 +31,13 @@ module _ {V W : Type 0} (f : V → W) where
   leaving_map None otherwise otherwise' same = same
   leaving_map (Some class) otherwise otherwise' same = refl
 
-  throws_map : (P : Program) (number : ℕ) (class : Thrown) (memory : Memory V) (frame : Frame V) (below : List (Frame V))
+  throws_map : (P : Views) (number : ℕ) (class : Thrown) (memory : Memory V) (frame : Frame V) (below : List (Frame V))
       → throws P number class (map_memory f memory) (map_frame f frame) (map (map_frame f) below) ≡ map_done f (throws P number class memory frame below)
   throws_map P number class memory frame [] =
-      viewed_map (map_done f) (P.view frame.at) _ _ _ _ refl (λ view.
+      viewed_map (map_done f) (P frame.at) _ _ _ _ refl (λ view.
       caught_map (catching view.handlers class) (Throwable number class) frame [] memory _ _ (leaving_map frame.initialises _ _ refl))
   throws_map P number class memory frame (caller ∷ below) =
-      viewed_map (map_done f) (P.view frame.at) _ _ _ _ refl (λ view.
+      viewed_map (map_done f) (P frame.at) _ _ _ _ refl (λ view.
       caught_map (catching view.handlers class) (Throwable number class) frame (caller ∷ below) memory _ _
       (leaving_map frame.initialises _ _ (throws_map P number class memory caller below)))
 
@@ -47,23 +47,28 @@ module _ {V W : Type 0} (f : V → W) where
 
   returned_map : (result : Option (Value V)) → returned_with (option_map (map_value f) result) ≡ map_end f (returned_with result)
   returned_map None = refl
-  returned_map (Some v) = refl
+  returned_map (Some (Int a)) = refl
+  returned_map (Some Null) = refl
+  returned_map (Some (Array number)) = refl
+  returned_map (Some (Text bytes)) = refl
+  returned_map (Some (Throwable number class)) = refl
 
-  returns_map : (P : Program) (result : Option (Value V)) (memory : Memory V) (initialises : Option ℕ) (below : List (Frame V))
+  returns_map : (P : Views) (result : Option (Value V)) (memory : Memory V) (initialises : Option ℕ) (below : List (Frame V))
       → returns P (option_map (map_value f) result) (map_memory f memory) initialises (map (map_frame f) below) ≡ map_done f (returns P result memory initialises below)
-  returns_map P result memory initialises [] = ap Ends (returned_map result)
+  returns_map P result memory None [] = ap Ends (returned_map result)
+  returns_map P result memory (Some class) [] = refl
   returns_map P result memory (Some class) (caller ∷ below) = refl
   returns_map P result memory None (caller ∷ below) =
-      viewed_map (map_done f) (P.view caller.at) _ _ _ _ refl (λ view.
-      ap (λ stack. goes_on view.next (record { at = caller.at; locals = map_values f caller.locals; stack = stack; initialises = caller.initialises }) (map (map_frame f) below) (map_memory f memory)) (onto_map result caller.stack)
+      viewed_map (map_done f) (P caller.at) _ _ _ _ refl (λ view.
+      ap (λ stack. goes_on view.next (record { at = caller.at; locals = map_locals f caller.locals; stack = stack; initialises = caller.initialises }) (map (map_frame f) below) (map_memory f memory)) (onto_map result caller.stack)
       ∙ goes_on_map view.next (record caller { stack = onto result caller.stack }) below memory)
 
   either_map : (b : Bool) (x y : Done V) → cond b (map_done f x) (map_done f y) ≡ map_done f (cond b x y)
   either_map true x y = refl
   either_map false x y = refl
 
-  enters_map : (item : Option Item) (locals : List (Value V)) (initialises : Option ℕ) (caller : Frame V) (below : List (Frame V)) (memory : Memory V)
-      → enters item (map_values f locals) initialises (map_frame f caller) (map (map_frame f) below) (map_memory f memory) ≡ map_done f (enters item locals initialises caller below memory)
+  enters_map : (item : Option Item) (locals : List (Option (Value V))) (initialises : Option ℕ) (caller : Frame V) (below : List (Frame V)) (memory : Memory V)
+      → enters item (map_locals f locals) initialises (map_frame f caller) (map (map_frame f) below) (map_memory f memory) ≡ map_done f (enters item locals initialises caller below memory)
   enters_map None locals initialises caller below memory = refl
   enters_map (Some item) locals initialises caller below memory =
       let full : Done V = Ends Deep in
@@ -71,29 +76,36 @@ module _ {V W : Type 0} (f : V → W) where
       ap (λ n. cond (nat_le most_frames (suc n)) (map_done f full) (map_done f above)) (length-map below (map_frame f))
       ∙ either_map (nat_le most_frames (suc (length below))) full above
 
-  pub perform_map : (P : Program) (state : State V) (doing : Doing V) → perform P (map_state f state) (map_doing f doing) ≡ map_done f (perform P state doing)
+  -- arguments become locals
+  locals_map : (arguments : List (Value V)) → map (λ v. Some v) (map_values f arguments) ≡ map_locals f (map (λ v. Some v) arguments)
+  locals_map [] = refl
+  locals_map (v ∷ arguments) = ap (λ locals. Some (map_value f v) ∷ locals) (locals_map arguments)
+
+  pub perform_map : (P : Views) (state : State V) (doing : Doing V) → perform P (map_state f state) (map_doing f doing) ≡ map_done f (perform P state doing)
   perform_map P state (Moves where_to here) =
-      viewed_map (map_done f) (P.view state.top.at) _ _ _ _ refl (λ view. goes_on_map (place view where_to) (left_with state.top here) state.below here.memory)
+      viewed_map (map_done f) (P state.top.at) _ _ _ _ refl (λ view. goes_on_map (place view where_to) (left_with state.top here) state.below here.memory)
   perform_map P state (Calls arguments here) =
-      viewed_map (map_done f) (P.view state.top.at) _ _ _ _ refl (λ view. enters_map view.callee arguments None (left_with state.top here) state.below here.memory)
+      viewed_map (map_done f) (P state.top.at) _ _ _ _ refl (λ view.
+      ap (λ locals. enters view.callee locals None (map_frame f (left_with state.top here)) (map (map_frame f) state.below) (map_memory f here.memory)) (locals_map arguments)
+      ∙ enters_map view.callee (map (λ v. Some v) arguments) None (left_with state.top here) state.below here.memory)
   perform_map P state (Initialises class here) =
-      viewed_map (map_done f) (P.view state.top.at) _ _ _ _ refl (λ view. enters_map view.initialiser [] (Some class) (left_with state.top here) state.below here.memory)
+      viewed_map (map_done f) (P state.top.at) _ _ _ _ refl (λ view. enters_map view.initialiser [] (Some class) (left_with state.top here) state.below here.memory)
   perform_map P state (Returns result memory) = returns_map P result memory state.top.initialises state.below
   perform_map P state (Raises number class memory) = throws_map P number class memory state.top state.below
   perform_map P state (Stops end) = refl
 
-  performed_map : (P : Program) (state : State V) (effect : Effect V) → performed P (map_state f state) (map_effect f effect) ≡ map_step f (performed P state effect)
+  performed_map : (P : Views) (state : State V) (effect : Effect V) → performed P (map_state f state) (map_effect f effect) ≡ map_step f (performed P state effect)
   performed_map P state (Does doing) = ap Then (perform_map P state doing)
   performed_map P state (Asks test arms) = ap (Chooses (map_test f test)) (λ i arm. perform_map P state (arms arm) i)
 
-  pub step_map : (I : Ints V) (J : Ints W) → Respects I J f → (P : Program) (state : State V) → step J P (map_state f state) ≡ map_step f (step I P state)
+  pub step_map : (I : Ints V) (J : Ints W) → Respects I J f → (P : Views) (state : State V) → step J P (map_state f state) ≡ map_step f (step I P state)
   step_map I J r P state =
-      viewed_map (map_step f) (P.view state.top.at) _ _ _ _ refl (λ view.
+      viewed_map (map_step f) (P state.top.at) _ _ _ _ refl (λ view.
       ap (performed P (map_state f state)) (effect_map I J f r view.instr (here_of state)) ∙ performed_map P state (effect I view.instr (here_of state)))
 
-  parameters_map : (parameters : List V) → map Int (map f parameters) ≡ map_values f (map Int parameters)
+  parameters_map : (parameters : List V) → map (λ a. Some (Int a)) (map f parameters) ≡ map_locals f (map (λ a. Some (Int a)) parameters)
   parameters_map [] = refl
-  parameters_map (a ∷ parameters) = ap (λ values. Int (f a) ∷ values) (parameters_map parameters)
+  parameters_map (a ∷ parameters) = ap (λ locals. Some (Int (f a)) ∷ locals) (parameters_map parameters)
 
   opened_map : (initialiser : Initialiser) (class : ℕ) (frame : Frame V) → opened initialiser class (map_frame f frame) ≡ map_done f (opened initialiser class frame)
   opened_map NoInitialiser class frame = refl
@@ -102,5 +114,5 @@ module _ {V W : Type 0} (f : V → W) where
 
   pub start_map : (P : Program) (parameters : List V) → start P (map f parameters) ≡ map_done f (start P parameters)
   start_map P parameters =
-      ap (λ locals. opened P.opening.initialiser P.opening.class (record { at = P.opening.first; locals = locals; stack = []; initialises = None })) (parameters_map parameters)
-      ∙ opened_map P.opening.initialiser P.opening.class (entry_frame P.opening.first parameters)
+      ap (λ locals. opened P.entry.initialiser P.entry.class (record { at = P.entry.first; locals = locals; stack = []; initialises = None })) (parameters_map parameters)
+      ∙ opened_map P.entry.initialiser P.entry.class (entry_frame P.entry.first parameters)

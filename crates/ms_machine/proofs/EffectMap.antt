@@ -33,10 +33,10 @@ on_int_map f stack go go' same =
     on_top_map f stack (λ v below. as_int v (λ a. go a below)) (λ v below. as_int v (λ a. go' a below))
     (λ v below. as_int_map f v (λ a. go a below) (λ a. go' a (map_values f below)) (λ a. same a below))
 
-on_some_map : {V W : Type 0} (f : V → W) (o : Option (Value V)) (go : Value V → Effect V) (go' : Value W → Effect W) → ((v : Value V) → go' (map_value f v) ≡ map_effect f (go v))
-    → on_some (option_map (map_value f) o) go' ≡ map_effect f (on_some o go)
-on_some_map f None go go' same = refl
-on_some_map f (Some v) go go' same = same v
+on_some_map : {V W A B : Type 0} (f : V → W) (g : A → B) (o : Option A) (go : A → Effect V) (go' : B → Effect W) → ((a : A) → go' (g a) ≡ map_effect f (go a))
+    → on_some (option_map g o) go' ≡ map_effect f (on_some o go)
+on_some_map f g None go go' same = refl
+on_some_map f g (Some v) go go' same = same v
 
 by_arm_map : {V W : Type 0} (f : V → W) (first second : Doing V) (arm : ℕ) → by_arm (map_doing f first) (map_doing f second) arm ≡ map_doing f (by_arm first second arm)
 by_arm_map f first second zero = refl
@@ -47,8 +47,8 @@ by_arm_map f first second (suc arm) = refl
 pub effect_map : {V W : Type 0} (I : Ints V) (J : Ints W) (f : V → W) → Respects I J f → (instr : Instr) (here : Here V) → effect J instr (map_here f here) ≡ map_effect f (effect I instr here)
 effect_map I J f r (Push word) here = ap (λ a. Does (next (map_here f here) (Int a ∷ map_values f here.stack))) (sym (r.constant word))
 effect_map I J f r (Load local) here =
-    ap (λ o. on_some o (λ v. Does (next (map_here f here) (v ∷ map_values f here.stack)))) (slice_get_map (map_value f) here.locals local)
-    ∙ on_some_map f (slice_get here.locals local) _ _ (λ v. refl)
+    ap (λ o. on_some o (λ held. on_some held (λ v. Does (next (map_here f here) (v ∷ map_values f here.stack))))) (slice_get_map (option_map (map_value f)) here.locals local)
+    ∙ on_some_map f (option_map (map_value f)) (slice_get here.locals local) _ _ (λ held. on_some_map f (map_value f) held _ _ (λ v. refl))
 effect_map I J f r (Combine op) here =
     on_int_map f here.stack _ _ (λ b rest. on_int_map f rest _ _ (λ a below.
     ap (λ c. Does (next (map_here f here) (Int c ∷ map_values f below))) (sym (r.binary op a b))))

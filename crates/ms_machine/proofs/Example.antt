@@ -3,28 +3,28 @@ use Rattle.std.proofs.Common.{◌≡◌, ℕ, ◌==◌, List, [], ◌∷◌, ℤ
 use Rattle.std.specs.Int.{int_wrap}
 use Rattle.ms_words.specs.declared.item.Item.{Item}
 use Rattle.ms_words.specs.declared.item.Item.TheVariants.{Entry, At}
+use Rattle.ms_words.specs.declared.kind.Kind.{Kind}
 use Rattle.ms_words.specs.declared.kind.Kind.TheVariants.{Z, I}
 use Rattle.ms_words.specs.declared.operator.Bin.TheVariants.{Sub}
 use Rattle.ms_words.specs.declared.operator.Rel.TheVariants.{Eq, Ne, Lt}
 use Rattle.ms_words.specs.Inputs.{Words}
 use Rattle.ms_terms.specs.Terms.{Constant, Param, Binary}
 use Rattle.ms_machine.specs.Ints.{ints}
-use Rattle.ms_machine.specs.Effects as effects
 use Rattle.ms_machine.specs.Effects.{Instr, Push, Load, Combine, Compare, CompareZero, ReturnValue, Returned}
-use Rattle.ms_machine.specs.Control.{Program, View, NoInitialiser}
+use Rattle.ms_machine.specs.Control.{Program, View, Views, NoInitialiser}
 use Rattle.ms_machine.specs.Segments.{most_instructions}
-use Rattle.ms_machine.specs.Runs.{EndsSo, IsCut, end_of, footprint, string, started, way}
+use Rattle.ms_machine.specs.Runs.{Ended, Cut, end_of, footprint, string, started, way}
 
--- A METHOD, instruction by instruction: its offset, what it is, the offset behind it, its targets
+-- A METHOD, instruction by instruction: its offset, what it is, the offset after it, its targets
 
 pub record Line : Type 0 where
   pub offset : ℕ
   pub instr : Instr
-  pub behind : ℕ
+  pub after : ℕ
   pub targets : List ℕ
 
 abbrev line : ℕ → Instr → ℕ → List ℕ → Line
-line offset instr behind targets = record { offset = offset; instr = instr; behind = behind; targets = targets }
+line offset instr after targets = record { offset = offset; instr = instr; after = after; targets = targets }
 
 abbrev at : ℕ → Item
 at offset = At 0 0 offset
@@ -33,25 +33,30 @@ abbrev items : List ℕ → List Item
 items [] = []
 items (offset ∷ offsets) = at offset ∷ items offsets
 
-abbrev view_of : Line → View
-view_of line = record { instr = line.instr; next = Some (at line.behind); targets = items line.targets; handlers = []; callee = None; initialiser = None }
+-- the instruction there, unless the code ends there
+abbrev next_in : List Line → ℕ → Option Item
+next_in [] offset = None
+next_in (line ∷ lines) offset = cond (line.offset == offset) (Some (at offset)) (next_in lines offset)
 
-abbrev view_in : List Line → ℕ → Option View
-view_in [] offset = None
-view_in (line ∷ lines) offset = cond (line.offset == offset) (Some (view_of line)) (view_in lines offset)
+abbrev view_of : List Line → Line → View
+view_of lines line = record { instr = line.instr; next = next_in lines line.after; targets = items line.targets; handlers = []; callee = None; initialiser = None }
 
-abbrev view_at : List Line → Item → Option View
+abbrev view_in : List Line → List Line → ℕ → Option View
+view_in all [] offset = None
+view_in all (line ∷ lines) offset = cond (line.offset == offset) (Some (view_of all line)) (view_in all lines offset)
+
+abbrev view_at : List Line → Views
 view_at lines Entry = None
-view_at lines (At class method offset) = view_in lines offset
+view_at lines (At class method offset) = view_in lines lines offset
 
-abbrev method : List Line → Program
-method lines = record { opening = record { first = at 0; class = 0; initialiser = NoInitialiser }; view = view_at lines }
+abbrev method : List Kind → List Line → Program
+method kinds lines = record { entry = record { kinds = kinds; result = Some I; first = at 0; class = 0; initialiser = NoInitialiser }; view = view_at lines }
 
 -- TWO TRUTH VALUES: f(ZZ)I with iload_0, ifeq 6, iconst_1, ireturn, 6: iload_1, ifne 12, iconst_2, ireturn,
 -- 12: iconst_0, ireturn
 
 abbrev truths : Program
-truths = method (line 0 (Load 0) 1 [] ∷ line 1 (CompareZero Eq) 4 (6 ∷ []) ∷ line 4 (Push (pos 1)) 5 [] ∷ line 5 ReturnValue 6 []
+truths = method (Z ∷ Z ∷ []) (line 0 (Load 0) 1 [] ∷ line 1 (CompareZero Eq) 4 (6 ∷ []) ∷ line 4 (Push (pos 1)) 5 [] ∷ line 5 ReturnValue 6 []
     ∷ line 6 (Load 1) 7 [] ∷ line 7 (CompareZero Ne) 10 (12 ∷ []) ∷ line 10 (Push (pos 2)) 11 [] ∷ line 11 ReturnValue 12 []
     ∷ line 12 (Push (pos 0)) 13 [] ∷ line 13 ReturnValue 14 [] ∷ [])
 
@@ -75,11 +80,11 @@ unfolding most_instructions
 string_00 = refl
 
 -- at depth 1 the second choice is due, and at depth 2 the run has ended
-cut_00 : end_of truths (two (pos 0) (pos 0)) 1 ≡ IsCut
+cut_00 : end_of truths (two (pos 0) (pos 0)) 1 ≡ Cut
 unfolding most_instructions
 cut_00 = refl
 
-end_00 : end_of truths (two (pos 0) (pos 0)) 2 ≡ EndsSo (Returned (effects.Int (record { word = pos 2; shadow = Constant (pos 2) })))
+end_00 : end_of truths (two (pos 0) (pos 0)) 2 ≡ Ended (Returned (record { word = pos 2; shadow = Constant (pos 2) }))
 unfolding most_instructions
 end_00 = refl
 
@@ -100,7 +105,7 @@ footprint_10 = refl
 -- iconst_2, ireturn, 13: iconst_3, ireturn
 
 abbrev nested : Program
-nested = method (line 0 (Load 0) 1 [] ∷ line 1 (CompareZero Ne) 4 (6 ∷ []) ∷ line 4 (Push (pos 1)) 5 [] ∷ line 5 ReturnValue 6 []
+nested = method (Z ∷ I ∷ []) (line 0 (Load 0) 1 [] ∷ line 1 (CompareZero Ne) 4 (6 ∷ []) ∷ line 4 (Push (pos 1)) 5 [] ∷ line 5 ReturnValue 6 []
     ∷ line 6 (Load 1) 7 [] ∷ line 7 (Push (pos 5)) 8 [] ∷ line 8 (Compare Lt) 11 (13 ∷ []) ∷ line 11 (Push (pos 2)) 12 [] ∷ line 12 ReturnValue 13 []
     ∷ line 13 (Push (pos 3)) 14 [] ∷ line 14 ReturnValue 15 [] ∷ [])
 
@@ -120,20 +125,21 @@ unfolding most_instructions
 nested_high = refl
 
 -- no choice is allowed at depth 0
-nested_cut : end_of nested (truth_and (pos 1) (pos 5)) 0 ≡ IsCut
+nested_cut : end_of nested (truth_and (pos 1) (pos 5)) 0 ≡ Cut
 unfolding most_instructions
 nested_cut = refl
 
-nested_end : end_of nested (truth_and (pos 1) (pos 5)) 2 ≡ EndsSo (Returned (effects.Int (record { word = pos 2; shadow = Constant (pos 2) })))
+nested_end : end_of nested (truth_and (pos 1) (pos 5)) 2 ≡ Ended (Returned (record { word = pos 2; shadow = Constant (pos 2) }))
 unfolding most_instructions
 nested_end = refl
 
 -- A COMPARISON OF CONSTANTS IS NO CHOICE: f(I)I with iconst_2, iconst_3, if_icmplt 6, 6: iload_0, iconst_1, isub,
--- iload_0, if_icmplt 14, iconst_0, 14: iload_0, ireturn
+-- iload_0, if_icmplt 15, iconst_0, ireturn, 15: iload_0, ireturn
 
 abbrev constants : Program
-constants = method (line 0 (Push (pos 2)) 1 [] ∷ line 1 (Push (pos 3)) 2 [] ∷ line 2 (Compare Lt) 5 (6 ∷ []) ∷ line 6 (Load 0) 7 [] ∷ line 7 (Push (pos 1)) 8 []
-    ∷ line 8 (Combine Sub) 9 [] ∷ line 9 (Load 0) 10 [] ∷ line 10 (Compare Lt) 13 (14 ∷ []) ∷ line 13 (Push (pos 0)) 14 [] ∷ line 14 (Load 0) 15 [] ∷ line 15 ReturnValue 16 [] ∷ [])
+constants = method (I ∷ []) (line 0 (Push (pos 2)) 1 [] ∷ line 1 (Push (pos 3)) 2 [] ∷ line 2 (Compare Lt) 5 (6 ∷ []) ∷ line 6 (Load 0) 7 [] ∷ line 7 (Push (pos 1)) 8 []
+    ∷ line 8 (Combine Sub) 9 [] ∷ line 9 (Load 0) 10 [] ∷ line 10 (Compare Lt) 13 (15 ∷ []) ∷ line 13 (Push (pos 0)) 14 [] ∷ line 14 ReturnValue 15 [] ∷ line 15 (Load 0) 16 []
+    ∷ line 16 ReturnValue 17 [] ∷ [])
 
 abbrev one : ℤ → Words
 one a = record { kinds = I ∷ []; words = a ∷ [] }
@@ -147,12 +153,12 @@ string_least : string constants (one (negsuc 2147483647)) 8 ≡ 0 ∷ []
 unfolding most_instructions int_wrap
 string_least = refl
 
-end_5 : end_of constants (one (pos 5)) 8 ≡ EndsSo (Returned (effects.Int (record { word = pos 5; shadow = Param 0 I })))
+end_5 : end_of constants (one (pos 5)) 8 ≡ Ended (Returned (record { word = pos 5; shadow = Param 0 I }))
 unfolding most_instructions int_wrap
 end_5 = refl
 
 -- what arm 1 of the one choice says
-way_1 : way ints constants (started constants (one (pos 5))) (1 ∷ [])
+way_1 : way ints constants.view (started constants (one (pos 5))) (1 ∷ [])
     ≡ record { rel = Lt; a = record { word = pos 4; shadow = Binary Sub (Param 0 I) (Constant (pos 1)) }; b = record { word = pos 5; shadow = Param 0 I } } ∷ []
 unfolding most_instructions int_wrap
 way_1 = refl

@@ -5,7 +5,7 @@ use Rattle.ms_words.specs.Inputs.{Words}
 use Rattle.ms_terms.specs.Terms.{Term, Constant}
 use Rattle.ms_machine.specs.Ints.{ints, shadows}
 use Rattle.ms_machine.specs.Effects.{Value, Int, Null, Array, Text, Throwable, Here, Stuck, Effect, Does, Asks, Instr, Push, Load, Combine, Compare, CompareZero, ReturnValue, Test, as_int, effect, next, on_int, on_some, on_top}
-use Rattle.ms_machine.specs.Control.{Program, State, View, Done, Goes, Ends, Step, Then, Chooses, here_of, performed, step, viewed}
+use Rattle.ms_machine.specs.Control.{Program, Views, State, View, Done, Goes, Ends, Step, Then, Chooses, here_of, performed, step, viewed}
 use Rattle.ms_machine.specs.Tests.{arm_of, arms_of, known_test, literals}
 use Rattle.ms_machine.specs.Segments.{After, Choice, Over, Segment, followed, forked, most_instructions, segment_from, segment_within}
 use Rattle.ms_machine.specs.Runs.{IsMet, after_arms, arms_at, done_after, next_literals, string, string_from, way, word_arm}
@@ -34,13 +34,14 @@ as_int_ordinary (Throwable number class) go all = tt
 on_int_ordinary : (stack : List (Value Term)) (go : Term → List (Value Term) → Effect Term) → ((a : Term) (below : List (Value Term)) → IsOrdinaryEffect (go a below)) → IsOrdinaryEffect (on_int stack go)
 on_int_ordinary stack go all = on_top_ordinary stack _ (λ v below. as_int_ordinary v _ (λ a. all a below))
 
-on_some_ordinary : (o : Option (Value Term)) (go : Value Term → Effect Term) → ((v : Value Term) → IsOrdinaryEffect (go v)) → IsOrdinaryEffect (on_some o go)
+on_some_ordinary : {A : Type 0} (o : Option A) (go : A → Effect Term) → ((a : A) → IsOrdinaryEffect (go a)) → IsOrdinaryEffect (on_some o go)
 on_some_ordinary None go all = tt
 on_some_ordinary (Some v) go all = all v
 
 effect_ordinary : (instr : Instr) → IsOrdinaryInstr instr → (here : Here Term) → IsOrdinaryEffect (effect shadows instr here)
 effect_ordinary (Push word) h here = tt
-effect_ordinary (Load local) h here = on_some_ordinary (slice_get here.locals local) (λ v. Does (next here (v ∷ here.stack))) (λ v. tt)
+effect_ordinary (Load local) h here = on_some_ordinary (slice_get here.locals local) (λ held. on_some held (λ v. Does (next here (v ∷ here.stack))))
+    (λ held. on_some_ordinary held (λ v. Does (next here (v ∷ here.stack))) (λ v. tt))
 effect_ordinary (Combine op) h here = on_int_ordinary here.stack _ (λ b rest. on_int_ordinary rest _ (λ a below. tt))
 effect_ordinary (Compare rel) h here = on_int_ordinary here.stack _ (λ b rest. on_int_ordinary rest _ (λ a below. h))
 effect_ordinary (CompareZero rel) h here = on_int_ordinary here.stack _ (λ a below. h)
@@ -50,7 +51,7 @@ abbrev IsOrdinaryStep : Step Term → Type 0
 IsOrdinaryStep (Then done) = Unit {0}
 IsOrdinaryStep (Chooses test arms) = IsOrdinaryTest test
 
-performed_ordinary : (P : Program) (state : State Term) (e : Effect Term) → IsOrdinaryEffect e → IsOrdinaryStep (performed P state e)
+performed_ordinary : (P : Views) (state : State Term) (e : Effect Term) → IsOrdinaryEffect e → IsOrdinaryStep (performed P state e)
 performed_ordinary P state (Does doing) h = tt
 performed_ordinary P state (Asks test arms) h = h
 
@@ -58,8 +59,8 @@ viewed_ordinary : (o : Option View) (go : View → Step Term) → ((view : View)
 viewed_ordinary None go all = tt
 viewed_ordinary (Some view) go all = all view refl
 
-step_ordinary : (P : Program) → IsDecoded P → (state : State Term) → IsOrdinaryStep (step shadows P state)
-step_ordinary P decoded state = viewed_ordinary (P.view state.top.at) _
+step_ordinary : (P : Views) → IsDecoded P → (state : State Term) → IsOrdinaryStep (step shadows P state)
+step_ordinary P decoded state = viewed_ordinary (P state.top.at) _
     (λ view is. performed_ordinary P state (effect shadows view.instr (here_of state)) (effect_ordinary view.instr (decoded.instrs state.top.at view is) (here_of state)))
 
 abbrev pub IsOrdinaryAfter : After Term → Type 0
@@ -74,22 +75,22 @@ followed_ordinary : (go : Done Term → Segment Term) → ((done : Done Term) �
 followed_ordinary go all (Then done) h = all done
 followed_ordinary go all (Chooses test arms) h = forked_ordinary test h arms go all (known_test shadows test)
 
-within_ordinary : (P : Program) → IsDecoded P → (n : ℕ) (done : Done Term) → IsOrdinaryAfter (segment_within shadows P n done).after
+within_ordinary : (P : Views) → IsDecoded P → (n : ℕ) (done : Done Term) → IsOrdinaryAfter (segment_within shadows P n done).after
 within_ordinary P decoded zero (Ends end) = tt
 within_ordinary P decoded zero (Goes state) = tt
 within_ordinary P decoded (suc n) (Ends end) = tt
 within_ordinary P decoded (suc n) (Goes state) = followed_ordinary (segment_within shadows P n) (within_ordinary P decoded n) (step shadows P state) (step_ordinary P decoded state)
 
-segment_ordinary : (P : Program) → IsDecoded P → (done : Done Term) → IsOrdinaryAfter (segment_from shadows P done).after
+segment_ordinary : (P : Views) → IsDecoded P → (done : Done Term) → IsOrdinaryAfter (segment_from shadows P done).after
 segment_ordinary P decoded done = within_ordinary P decoded most_instructions done
 
 -- PATHS: strings of arms, each an arm of the choice that comes
 
-abbrev IsPath : Program → Done Term → List ℕ → Type 0
+abbrev IsPath : Views → Done Term → List ℕ → Type 0
 IsPath P done [] = Unit {0}
 IsPath P done (arm ∷ arms) = HasArm (segment_from shadows P done).after arm × IsPath P (done_after (segment_from shadows P done).after arm) arms
 
-path_then : (P : Program) (done : Done Term) (p : List ℕ) (arm : ℕ) → IsPath P done p → HasArm (segment_from shadows P (after_arms shadows P done p)).after arm → IsPath P done (p ++ arm ∷ [])
+path_then : (P : Views) (done : Done Term) (p : List ℕ) (arm : ℕ) → IsPath P done p → HasArm (segment_from shadows P (after_arms shadows P done p)).after arm → IsPath P done (p ++ arm ∷ [])
 path_then P done [] arm path has = (has, tt)
 path_then P done (first ∷ p) arm path has = (path.0, path_then P (done_after (segment_from shadows P done).after first) p arm path.1 has)
 
@@ -120,7 +121,7 @@ at_met x (Choice test arms_then) go arm arms h has =
     )
 at_met x (Over end) go arm arms h has = absurd has
 
-taken_is_path : (P : Program) → IsDecoded P → (x : Words) (p : List ℕ) (done : Done Term) → string_from shadows P (arm_on x) (length p) done ≡ p → IsPath P done p
+taken_is_path : (P : Views) → IsDecoded P → (x : Words) (p : List ℕ) (done : Done Term) → string_from shadows P (arm_on x) (length p) done ≡ p → IsPath P done p
 taken_is_path P decoded x [] done is = tt
 taken_is_path P decoded x (arm ∷ arms) done is =
     let once = at_once x (segment_from shadows P done).after (string_from shadows P (arm_on x) (length arms)) arm arms (segment_ordinary P decoded done) is in
@@ -130,7 +131,7 @@ all_joined : {A : Type 0} (Q : A → Type 0) (xs ys : List A) → AllByRecursion
 all_joined Q [] ys = (λ h. (tt, h), λ h. h.1)
 all_joined Q (x ∷ xs) ys = (λ h. ((h.0, ((all_joined Q xs ys).0 h.1).0), ((all_joined Q xs ys).0 h.1).1), λ h. (h.0.0, (all_joined Q xs ys).1 (h.0.1, h.1)))
 
-path_is_met : (P : Program) → IsDecoded P → (x : Words) (p : List ℕ) (done : Done Term) → IsPath P done p → (string_from shadows P (arm_on x) (length p) done ≡ p) ↔ AllByRecursion (IsMet x) (way shadows P done p)
+path_is_met : (P : Views) → IsDecoded P → (x : Words) (p : List ℕ) (done : Done Term) → IsPath P done p → (string_from shadows P (arm_on x) (length p) done ≡ p) ↔ AllByRecursion (IsMet x) (way shadows P done p)
 path_is_met P decoded x [] done path = (λ h. tt, λ h. refl)
 path_is_met P decoded x (arm ∷ arms) done path =
     let after = (segment_from shadows P done).after in
@@ -141,14 +142,14 @@ path_is_met P decoded x (arm ∷ arms) done path =
 
 -- RUNS
 
-string_is : (P : Program) (x : Words) → IsWhole x → (depth : ℕ) → string P x depth ≡ string_from shadows P (arm_on x) depth (shadow_started P x.kinds)
-string_is P x whole depth = ap (string_from ints P word_arm depth) (started_values P x whole)
-    ∙ string_map shadows ints (int_of x.words) (values_respect x.words) (arm_on x) word_arm (λ test. refl) P depth (shadow_started P x.kinds)
+string_is : (P : Program) (x : Words) → IsWhole x → (depth : ℕ) → string P x depth ≡ string_from shadows P.view (arm_on x) depth (shadow_started P x.kinds)
+string_is P x whole depth = ap (string_from ints P.view word_arm depth) (started_values P x whole)
+    ∙ string_map shadows ints (int_of x.words) (values_respect x.words) (arm_on x) word_arm (λ test. refl) P.view depth (shadow_started P x.kinds)
 
-pub law_of_the_string : (P : Program) → IsDecoded P → LawOfTheString P
+pub law_of_the_string : (P : Program) → IsDecoded P.view → LawOfTheString P
 law_of_the_string P decoded x y whole whole' kinds p arm takes has =
-    let path : IsPath P (shadow_started P x.kinds) p = subst (λ ks. IsPath P (shadow_started P ks) p) (sym kinds)
-    (taken_is_path P decoded y p (shadow_started P y.kinds) (sym (string_is P y whole' (length p)) ∙ takes)) in
-    let met = path_is_met P decoded x (p ++ arm ∷ []) (shadow_started P x.kinds) (path_then P (shadow_started P x.kinds) p arm path has) in
+    let path : IsPath P.view (shadow_started P x.kinds) p = subst (λ ks. IsPath P.view (shadow_started P ks) p) (sym kinds)
+    (taken_is_path P.view decoded y p (shadow_started P y.kinds) (sym (string_is P y whole' (length p)) ∙ takes)) in
+    let met = path_is_met P.view decoded x (p ++ arm ∷ []) (shadow_started P x.kinds) (path_then P.view (shadow_started P x.kinds) p arm path has) in
     let same = string_is P x whole (length (p ++ arm ∷ [])) in
     (λ is. met.0 (sym same ∙ is), λ all. same ∙ met.1 all)

@@ -2,7 +2,7 @@
 use Rattle.std.proofs.Common.{◌≡◌, ℕ, zero, suc, ℤ, List, [], ◌∷◌, Option, Some, None, refl, ap, ◌∙◌}
 use Rattle.ms_machine.specs.Ints.{Ints}
 use Rattle.ms_machine.specs.Effects.{Test, Compares, Divides, Selects, Indexes}
-use Rattle.ms_machine.specs.Control.{Program, Done, Goes, Ends, Step, Then, Chooses, step}
+use Rattle.ms_machine.specs.Control.{Views, Done, Goes, Ends, Step, Then, Chooses, step}
 use Rattle.ms_machine.specs.Tests.{arm_of, both_known, known_test, map_test, one_known}
 use Rattle.ms_machine.specs.Segments.{After, Choice, Over, Segment, followed, forked, item_then, most_instructions, segment_from, segment_within}
 use Rattle.ms_machine.specs.Runs.{after_arms, done_after}
@@ -28,7 +28,7 @@ module _ {V W : Type 0} (I : Ints V) (J : Ints W) (f : V → W) (r : Respects I 
   followed_map go go' same (Chooses test arms) =
       ap (forked (map_test f test) (λ arm. map_done f (arms arm)) go') (known_map test) ∙ forked_map test arms go go' same (known_test I test)
 
-  pub segment_map : (P : Program) (n : ℕ) (done : Done V) → segment_within J P n (map_done f done) ≡ map_segment f (segment_within I P n done)
+  pub segment_map : (P : Views) (n : ℕ) (done : Done V) → segment_within J P n (map_done f done) ≡ map_segment f (segment_within I P n done)
   segment_map P zero (Ends end) = refl
   segment_map P zero (Goes state) = refl
   segment_map P (suc n) (Ends end) = refl
@@ -36,7 +36,7 @@ module _ {V W : Type 0} (I : Ints V) (J : Ints W) (f : V → W) (r : Respects I 
       ap (λ taken. item_then state.top.at (followed J (segment_within J P n) taken)) (step_map f I J r P state)
       ∙ ap (item_then state.top.at) (followed_map (segment_within I P n) (segment_within J P n) (segment_map P n) (step I P state))
 
-  pub segment_from_map : (P : Program) (done : Done V) → segment_from J P (map_done f done) ≡ map_segment f (segment_from I P done)
+  pub segment_from_map : (P : Views) (done : Done V) → segment_from J P (map_done f done) ≡ map_segment f (segment_from I P done)
   segment_from_map P done = segment_map P most_instructions done
 
   done_after_map : (after : After V) (arm : ℕ) → done_after (map_after f after) arm ≡ map_done f (done_after after arm)
@@ -44,7 +44,7 @@ module _ {V W : Type 0} (I : Ints V) (J : Ints W) (f : V → W) (r : Respects I 
   done_after_map (Over end) arm = refl
 
   -- what comes after arms
-  pub after_arms_map : (P : Program) (arms : List ℕ) (done : Done V) → after_arms J P (map_done f done) arms ≡ map_done f (after_arms I P done arms)
+  pub after_arms_map : (P : Views) (arms : List ℕ) (done : Done V) → after_arms J P (map_done f done) arms ≡ map_done f (after_arms I P done arms)
   after_arms_map P [] done = refl
   after_arms_map P (arm ∷ arms) done =
       ap (λ segment. after_arms J P (done_after segment.after arm) arms) (segment_from_map P done)

@@ -4,7 +4,7 @@ use Rattle.ms_words.specs.Inputs.{Words}
 use Rattle.ms_words.specs.Items.{firsts}
 use Rattle.ms_machine.specs.Ints.{Ints, Int, ints, marks, shadows}
 use Rattle.ms_machine.specs.Effects.{Test, Compares, Divides, Selects, Indexes}
-use Rattle.ms_machine.specs.Control.{Program, Done, start}
+use Rattle.ms_machine.specs.Control.{Program, Views, Done, start}
 use Rattle.ms_machine.specs.Tests.{map_test}
 use Rattle.ms_machine.specs.Segments.{After, Choice, Over, Segment, segment_from, segment_within}
 use Rattle.ms_machine.specs.Runs.{after_arms, arms_at, segment_after, started, string_from, with_entry, word_arm}
@@ -22,7 +22,7 @@ module _ {V W : Type 0} (I : Ints V) (J : Ints W) (f : V → W) (r : Respects I 
       ap (λ arm. arm ∷ go' (map_done f (arms arm))) (alike test) ∙ ap (λ string. decide test ∷ string) (same (arms (decide test)))
   arms_at_map (Over end) go go' same = refl
 
-  pub string_map : (P : Program) (depth : ℕ) (done : Done V) → string_from J P decide' depth (map_done f done) ≡ string_from I P decide depth done
+  pub string_map : (P : Views) (depth : ℕ) (done : Done V) → string_from J P decide' depth (map_done f done) ≡ string_from I P decide depth done
   string_map P zero done = refl
   string_map P (suc depth) done =
       ap (λ segment. arms_at decide' (string_from J P decide' depth) segment.after) (segment_from_map I J f r P done)
@@ -35,11 +35,11 @@ started_values P x whole = ap (start P) (given_values x whole) ∙ start_map (in
 
 pub words_are_values : (P : Program) (x : Words) → IsWhole x → WordsAreValues P x
 words_are_values P x whole =
-    let run : (p : List ℕ) → after_arms ints P (started P x) p ≡ map_done (int_of x.words) (after_arms shadows P (shadow_started P x.kinds) p) =
-    λ p. ap (λ done. after_arms ints P done p) (started_values P x whole) ∙ after_arms_map shadows ints (int_of x.words) (values_respect x.words) P p (shadow_started P x.kinds) in
+    let run : (p : List ℕ) → after_arms ints P.view (started P x) p ≡ map_done (int_of x.words) (after_arms shadows P.view (shadow_started P x.kinds) p) =
+    λ p. ap (λ done. after_arms ints P.view done p) (started_values P x whole) ∙ after_arms_map shadows ints (int_of x.words) (values_respect x.words) P.view p (shadow_started P x.kinds) in
     record {
       run = run;
-      steps = λ p n. ap (segment_within ints P n) (run p) ∙ segment_map shadows ints (int_of x.words) (values_respect x.words) P n (after_arms shadows P (shadow_started P x.kinds) p);
+      steps = λ p n. ap (segment_within ints P.view n) (run p) ∙ segment_map shadows ints (int_of x.words) (values_respect x.words) P.view n (after_arms shadows P.view (shadow_started P x.kinds) p);
     }
 
 -- THE MARKS
@@ -52,18 +52,18 @@ mark_alike (Indexes a len) = refl
 
 pub marks_are_right : (P : Program) (x : Words) → MarksAreRight P x
 marks_are_right P x = record {
-  choices = λ depth. string_map ints marks mark_of marks_respect word_arm mark_arm mark_alike P depth (started P x);
-  segments = λ p. ap (segment_from marks P) (after_arms_map ints marks mark_of marks_respect P p (started P x))
-      ∙ segment_from_map ints marks mark_of marks_respect P (after_arms ints P (started P x) p);
+  choices = λ depth. string_map ints marks mark_of marks_respect word_arm mark_arm mark_alike P.view depth (started P x);
+  segments = λ p. ap (segment_from marks P.view) (after_arms_map ints marks mark_of marks_respect P.view p (started P x))
+      ∙ segment_from_map ints marks mark_of marks_respect P.view (after_arms ints P.view (started P x) p);
 }
 
 -- ANY TWO INPUTS
 
 segment_values : (P : Program) (x : Words) → IsWhole x → (p : List ℕ) → segment_after P x p ≡ map_segment (int_of x.words) (shadow_after P x.kinds p)
 segment_values P x whole p =
-    ap (λ done. segment_from ints P (after_arms ints P done p)) (started_values P x whole)
-    ∙ ap (segment_from ints P) (after_arms_map shadows ints (int_of x.words) (values_respect x.words) P p (shadow_started P x.kinds))
-    ∙ segment_from_map shadows ints (int_of x.words) (values_respect x.words) P (after_arms shadows P (shadow_started P x.kinds) p)
+    ap (λ done. segment_from ints P.view (after_arms ints P.view done p)) (started_values P x whole)
+    ∙ ap (segment_from ints P.view) (after_arms_map shadows ints (int_of x.words) (values_respect x.words) P.view p (shadow_started P x.kinds))
+    ∙ segment_from_map shadows ints (int_of x.words) (values_respect x.words) P.view (after_arms shadows P.view (shadow_started P x.kinds) p)
 
 pub inputs_share_shadows : (P : Program) (x : Words) → IsWhole x → SharesShadows P x
 inputs_share_shadows P x whole = record {

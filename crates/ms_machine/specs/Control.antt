@@ -4,8 +4,9 @@ use Rattle.std.specs.Prelude.{ℕ, suc, cond, nat_le, List, [], ◌∷◌, lengt
 use Rattle.ms_words.specs.Throwables.{is_a}
 use Rattle.ms_words.specs.declared.thrown.Thrown.{Thrown}
 use Rattle.ms_words.specs.declared.item.Item.{Item}
+use Rattle.ms_words.specs.declared.kind.Kind.{Kind}
 use Rattle.ms_machine.specs.Ints.{Ints}
-use Rattle.ms_machine.specs.Effects.{Instr, Value, Int, Throwable, Memory, Here, End, Returned, ReturnedVoid, Threw, InitFailed, Missing, Deep, Stuck, Where, Next, Target, Doing, Moves, Calls, Initialises, Returns, Raises, Stops, Test, Effect, Does, Asks, effect}
+use Rattle.ms_machine.specs.Effects.{Instr, Value, Int, Null, Array, Text, Throwable, Memory, Here, End, Returned, ReturnedVoid, Threw, InitFailed, Missing, Deep, Stuck, Where, Next, Target, Doing, Moves, Calls, Initialises, Returns, Raises, Stops, Test, Effect, Does, Asks, effect}
 
 -- WHAT A STEP MAY READ OF THE PROGRAM
 
@@ -24,28 +25,36 @@ pub record View : Type 0 where
   pub callee : Option Item
   pub initialiser : Option Item
 
--- the initialiser of a class: none, one with this first instruction, one outside the subset that is missing as this name
+-- the initialiser of a class: none, one with this first instruction, or one outside the subset, under
+-- the name that a run ends with that misses it
 pub data Initialiser : Type 0 where
   NoInitialiser : Initialiser
   Begins : Item → Initialiser
   Foreign : List ℕ → Initialiser
 
--- of the entry: its first instruction, its class and the initialiser of that
-pub record Opening : Type 0 where
+-- of the entry: the kinds of its parameters and of its result, its first instruction, its class and the
+-- initialiser of that
+pub record EntryView : Type 0 where
+  pub kinds : List Kind
+  pub result : Option Kind
   pub first : Item
   pub class : ℕ
   pub initialiser : Initialiser
 
+-- all that a step may read
+abbrev pub Views : Type 0
+Views = Item → Option View
+
 pub record Program : Type 0 where
-  pub opening : Opening
-  pub view : Item → Option View
+  pub entry : EntryView
+  pub view : Views
 
 -- STATES
 
 -- a frame: where it is, its locals and operand stack, and the class whose initialiser it runs, if it was pushed for one
 pub record Frame (V : Type 0) : Type 0 where
   pub at : Item
-  pub locals : List (Value V)
+  pub locals : List (Option (Value V))
   pub stack : List (Value V)
   pub initialises : Option ℕ
 
@@ -97,46 +106,55 @@ abbrev pub leaving : {V : Type 0} → Option ℕ → Done V → Done V
 leaving None otherwise = otherwise
 leaving (Some class) otherwise = Ends (InitFailed class)
 
--- a throwable looks for a handler in the frame where it was thrown, and then in each frame below
-abbrev pub throws : {V : Type 0} → Program → ℕ → Thrown → Memory V → Frame V → List (Frame V) → Done V
-throws P number class memory frame [] = viewed (P.view frame.at) (Ends Stuck) (λ view.
+-- A throwable looks for a handler in the frame where it was thrown, and then in each frame below (JVMS
+-- SE 8, section 2.10). Where it leaves the lowest frame it ends the run as thrown.
+abbrev pub throws : {V : Type 0} → Views → ℕ → Thrown → Memory V → Frame V → List (Frame V) → Done V
+throws P number class memory frame [] = viewed (P frame.at) (Ends Stuck) (λ view.
     caught (catching view.handlers class) (Throwable number class) frame [] memory (leaving frame.initialises (Ends (Threw class))))
-throws P number class memory frame (caller ∷ below) = viewed (P.view frame.at) (Ends Stuck) (λ view.
+throws P number class memory frame (caller ∷ below) = viewed (P frame.at) (Ends Stuck) (λ view.
     caught (catching view.handlers class) (Throwable number class) frame (caller ∷ below) memory
     (leaving frame.initialises (throws P number class memory caller below)))
 
+-- an entry returns an int or nothing
 abbrev pub returned_with : {V : Type 0} → Option (Value V) → End V
 returned_with None = ReturnedVoid
-returned_with (Some v) = Returned v
+returned_with (Some (Int a)) = Returned a
+returned_with (Some Null) = Stuck
+returned_with (Some (Array number)) = Stuck
+returned_with (Some (Text bytes)) = Stuck
+returned_with (Some (Throwable number class)) = Stuck
 
 abbrev pub onto : {V : Type 0} → Option (Value V) → List (Value V) → List (Value V)
 onto None stack = stack
 onto (Some v) stack = v ∷ stack
 
--- The caller goes on behind its call. Behind an initialiser the instruction that needed it is executed again.
-abbrev pub returns : {V : Type 0} → Program → Option (Value V) → Memory V → Option ℕ → List (Frame V) → Done V
-returns P result memory initialises [] = Ends (returned_with result)
+-- The caller goes on after its call. After an initialiser the instruction that needed it is executed
+-- again, and counts again. A return from the lowest frame ends the run.
+abbrev pub returns : {V : Type 0} → Views → Option (Value V) → Memory V → Option ℕ → List (Frame V) → Done V
+returns P result memory None [] = Ends (returned_with result)
+returns P result memory (Some class) [] = Ends Stuck
 returns P result memory (Some class) (caller ∷ below) = Goes (record { top = caller; below = below; memory = memory })
-returns P result memory None (caller ∷ below) = viewed (P.view caller.at) (Ends Stuck) (λ view.
+returns P result memory None (caller ∷ below) = viewed (P caller.at) (Ends Stuck) (λ view.
     goes_on view.next (record caller { stack = onto result caller.stack }) below memory)
 
--- the most frames that stand at a time
-abbrev pub most_frames : ℕ
+-- the most frames that stand at a time: a bound of this project, not of the standard
+unfoldable pub most_frames : ℕ
 most_frames = 256
 
 -- a new frame stands above, unless as many stand as may
-abbrev pub enters : {V : Type 0} → Option Item → List (Value V) → Option ℕ → Frame V → List (Frame V) → Memory V → Done V
+abbrev pub enters : {V : Type 0} → Option Item → List (Option (Value V)) → Option ℕ → Frame V → List (Frame V) → Memory V → Done V
 enters None locals initialises caller below memory = Ends Stuck
 enters (Some item) locals initialises caller below memory =
     cond (nat_le most_frames (suc (length below))) (Ends Deep)
     (Goes (record { top = record { at = item; locals = locals; stack = []; initialises = initialises }; below = caller ∷ below; memory = memory }))
 
-abbrev pub perform : {V : Type 0} → Program → State V → Doing V → Done V
-perform P state (Moves where_to here) = viewed (P.view state.top.at) (Ends Stuck) (λ view.
+-- where a doing of the top frame leads
+abbrev pub perform : {V : Type 0} → Views → State V → Doing V → Done V
+perform P state (Moves where_to here) = viewed (P state.top.at) (Ends Stuck) (λ view.
     goes_on (place view where_to) (left_with state.top here) state.below here.memory)
-perform P state (Calls arguments here) = viewed (P.view state.top.at) (Ends Stuck) (λ view.
-    enters view.callee arguments None (left_with state.top here) state.below here.memory)
-perform P state (Initialises class here) = viewed (P.view state.top.at) (Ends Stuck) (λ view.
+perform P state (Calls arguments here) = viewed (P state.top.at) (Ends Stuck) (λ view.
+    enters view.callee (map (λ v. Some v) arguments) None (left_with state.top here) state.below here.memory)
+perform P state (Initialises class here) = viewed (P state.top.at) (Ends Stuck) (λ view.
     enters view.initialiser [] (Some class) (left_with state.top here) state.below here.memory)
 perform P state (Returns result memory) = returns P result memory state.top.initialises state.below
 perform P state (Raises number class memory) = throws P number class memory state.top state.below
@@ -149,29 +167,29 @@ pub data Step (V : Type 0) : Type 0 where
   Then : Done V → Step V
   Chooses : Test V → (ℕ → Done V) → Step V
 
-abbrev pub performed : {V : Type 0} → Program → State V → Effect V → Step V
+abbrev pub performed : {V : Type 0} → Views → State V → Effect V → Step V
 performed P state (Does doing) = Then (perform P state doing)
 performed P state (Asks test arms) = Chooses test (λ arm. perform P state (arms arm))
 
 -- the instruction where the top frame stands is executed
-abbrev pub step : {V : Type 0} → Ints V → Program → State V → Step V
-step I P state = viewed (P.view state.top.at) (Then (Ends Stuck)) (λ view. performed P state (effect I view.instr (here_of state)))
+abbrev pub step : {V : Type 0} → Ints V → Views → State V → Step V
+step I P state = viewed (P state.top.at) (Then (Ends Stuck)) (λ view. performed P state (effect I view.instr (here_of state)))
 
 -- THE START
 
-abbrev pub empty_memory : {V : Type 0} → ℕ → Memory V
-empty_memory class = record { statics = []; started = class ∷ []; arrays = []; throwables = [] }
+abbrev pub memory_at_start : {V : Type 0} → ℕ → Memory V
+memory_at_start class = record { statics = []; started = class ∷ []; arrays = []; throwables = [] }
 
 abbrev pub entry_frame : {V : Type 0} → Item → List V → Frame V
-entry_frame item parameters = record { at = item; locals = map Int parameters; stack = []; initialises = None }
+entry_frame item parameters = record { at = item; locals = map (λ a. Some (Int a)) parameters; stack = []; initialises = None }
 
 -- the entry's class is started, and its initialiser runs first
 abbrev pub opened : {V : Type 0} → Initialiser → ℕ → Frame V → Done V
-opened NoInitialiser class frame = Goes (record { top = frame; below = []; memory = empty_memory class })
+opened NoInitialiser class frame = Goes (record { top = frame; below = []; memory = memory_at_start class })
 opened (Begins item) class frame =
-    Goes (record { top = record { at = item; locals = []; stack = []; initialises = Some class }; below = frame ∷ []; memory = empty_memory class })
+    Goes (record { top = record { at = item; locals = []; stack = []; initialises = Some class }; below = frame ∷ []; memory = memory_at_start class })
 opened (Foreign name) class frame = Ends (Missing name)
 
 -- one frame at the entry with the parameters
 abbrev pub start : {V : Type 0} → Program → List V → Done V
-start P parameters = opened P.opening.initialiser P.opening.class (entry_frame P.opening.first parameters)
+start P parameters = opened P.entry.initialiser P.entry.class (entry_frame P.entry.first parameters)

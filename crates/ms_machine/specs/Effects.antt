@@ -33,10 +33,11 @@ pub data Value (V : Type 0) : Type 0 where
   -- a throwable, by its number, and its class
   Throwable : ℕ → Thrown → Value V
 
--- the value of a static field of a class
+-- the value of a static field, by the number of its class, its name and its descriptor
 pub record Static (V : Type 0) : Type 0 where
   pub class : ℕ
   pub name : List ℕ
+  pub descriptor : List ℕ
   pub value : Value V
 
 -- what all frames share: static fields, the classes that were started, the cells of arrays, the classes of throwables
@@ -46,9 +47,10 @@ pub record Memory (V : Type 0) : Type 0 where
   pub arrays : List (List V)
   pub throwables : List Thrown
 
--- what an instruction works on: locals, the operand stack with its top first, memory
+-- what an instruction works on: the locals, where one that was never stored has no value, the operand
+-- stack with its top first, and memory (JVMS SE 8, sections 2.6.1 and 2.6.2)
 pub record Here (V : Type 0) : Type 0 where
-  pub locals : List (Value V)
+  pub locals : List (Option (Value V))
   pub stack : List (Value V)
   pub memory : Memory V
 
@@ -56,7 +58,7 @@ pub record Here (V : Type 0) : Type 0 where
 
 -- How a run ends by itself. `Stuck` is the end of a run that no rule covers; a verified program has none.
 pub data End (V : Type 0) : Type 0 where
-  Returned : Value V → End V
+  Returned : V → End V
   ReturnedVoid : End V
   Threw : Thrown → End V
   InitFailed : ℕ → End V
@@ -79,7 +81,7 @@ pub data Doing (V : Type 0) : Type 0 where
   Moves : Where → Here V → Doing V
   -- calls the member's method with these arguments
   Calls : List (Value V) → Here V → Doing V
-  -- runs the initialiser of a class first
+  -- runs the initialiser of a class first: nothing is popped, and the class is marked as started
   Initialises : ℕ → Here V → Doing V
   -- returns to the frame below
   Returns : Option (Value V) → Memory V → Doing V
@@ -142,7 +144,7 @@ by_arm first second (suc arm) = second
 
 abbrev pub effect : {V : Type 0} → Ints V → Instr → Here V → Effect V
 effect I (Push word) here = Does (next here (Int (I.constant word) ∷ here.stack))
-effect I (Load local) here = on_some (slice_get here.locals local) (λ v. Does (next here (v ∷ here.stack)))
+effect I (Load local) here = on_some (slice_get here.locals local) (λ held. on_some held (λ v. Does (next here (v ∷ here.stack))))
 effect I (Combine op) here = on_int here.stack (λ b rest. on_int rest (λ a below. Does (next here (Int (I.binary op a b) ∷ below))))
 effect I (Compare rel) here = on_int here.stack (λ b rest. on_int rest (λ a below. Asks (Compares rel a b) (by_arm (next here below) (jump here below))))
 effect I (CompareZero rel) here = on_int here.stack (λ a below. Asks (Compares rel a (I.constant (pos 0))) (by_arm (next here below) (jump here below)))

@@ -10,7 +10,7 @@ use Rattle.ms_words.specs.Items.{firsts}
 use Rattle.ms_terms.specs.Terms.{Term, Param, is_constant, value}
 use Rattle.ms_machine.specs.Ints.{Int, Marked, ints, marks, shadows}
 use Rattle.ms_machine.specs.Effects.{Test, Instr, Push, Load, Combine, Compare, CompareZero, ReturnValue}
-use Rattle.ms_machine.specs.Control.{Program, View, Done, start}
+use Rattle.ms_machine.specs.Control.{Program, View, Views, Done, start}
 use Rattle.ms_machine.specs.Tests.{Literal, arm_of, arms_of, map_test}
 use Rattle.ms_machine.specs.Segments.{After, Choice, Over, Segment, segment_from, segment_within}
 use Rattle.ms_machine.specs.Runs.{IsMet, Takes, after_arms, footprint, segment_after, started, string, string_from, way, with_entry}
@@ -32,7 +32,7 @@ shadow_started P kinds = start P (parameters_from 0 kinds)
 
 -- the segment after p, of terms alone
 abbrev pub shadow_after : Program → List Kind → List ℕ → Segment Term
-shadow_after P kinds p = segment_from shadows P (after_arms shadows P (shadow_started P kinds) p)
+shadow_after P kinds p = segment_from shadows P.view (after_arms shadows P.view (shadow_started P kinds) p)
 
 -- the int of a term, where the parameters are these words
 abbrev pub int_of : List ℤ → Term → Int
@@ -41,9 +41,9 @@ int_of words term = record { word = value words term; shadow = term }
 -- The word of every int is the value of its shadow on the input: a run of x is that of terms, each with
 -- its value, after any arms and within any number of instructions.
 pub record WordsAreValues (P : Program) (x : Words) : Type 0 where
-  pub run : (p : List ℕ) → after_arms ints P (started P x) p ≡ map_done (int_of x.words) (after_arms shadows P (shadow_started P x.kinds) p)
-  pub steps : (p : List ℕ) (n : ℕ) → segment_within ints P n (after_arms ints P (started P x) p)
-      ≡ map_segment (int_of x.words) (segment_within shadows P n (after_arms shadows P (shadow_started P x.kinds) p))
+  pub run : (p : List ℕ) → after_arms ints P.view (started P x) p ≡ map_done (int_of x.words) (after_arms shadows P.view (shadow_started P x.kinds) p)
+  pub steps : (p : List ℕ) (n : ℕ) → segment_within ints P.view n (after_arms ints P.view (started P x) p)
+      ≡ map_segment (int_of x.words) (segment_within shadows P.view n (after_arms shadows P.view (shadow_started P x.kinds) p))
 
 -- THE MACHINE WITH MARKS
 
@@ -57,8 +57,8 @@ mark_arm test = arm_of (map_test (λ a. a.word) test)
 -- The machine with marks runs as the one with shadows: it has the same choices, takes the same arms,
 -- executes the same items, and ends alike.
 pub record MarksAreRight (P : Program) (x : Words) : Type 0 where
-  pub choices : (depth : ℕ) → string_from marks P mark_arm depth (map_done mark_of (started P x)) ≡ string P x depth
-  pub segments : (p : List ℕ) → segment_from marks P (after_arms marks P (map_done mark_of (started P x)) p) ≡ map_segment mark_of (segment_after P x p)
+  pub choices : (depth : ℕ) → string_from marks P.view mark_arm depth (map_done mark_of (started P x)) ≡ string P x depth
+  pub segments : (p : List ℕ) → segment_from marks P.view (after_arms marks P.view (map_done mark_of (started P x)) p) ≡ map_segment mark_of (segment_after P x p)
 
 -- ANY TWO INPUTS
 
@@ -89,8 +89,8 @@ IsOrdinaryInstr (CompareZero rel) = IsOrdinary rel
 IsOrdinaryInstr ReturnValue = Unit {0}
 
 -- what a decoder makes sure of: each branch has one of the six relations of the instruction set
-pub record IsDecoded (P : Program) : Type 0 where
-  pub instrs : (item : Item) (view : View) → P.view item ≡ Some view → IsOrdinaryInstr view.instr
+pub record IsDecoded (P : Views) : Type 0 where
+  pub instrs : (item : Item) (view : View) → P item ≡ Some view → IsOrdinaryInstr view.instr
 
 -- a choice comes, and has this arm
 abbrev pub HasArm : {V : Type 0} → After V → ℕ → Type 0
@@ -99,7 +99,7 @@ HasArm (Over end) arm = ⊥
 
 -- the literals on the way through p, over the parameters
 abbrev pub condition : Program → List Kind → List ℕ → List (Literal Term)
-condition P kinds p = way shadows P (shadow_started P kinds) p
+condition P kinds p = way shadows P.view (shadow_started P kinds) p
 
 -- Where some input takes p, and arm is one of the choice after it: x takes p with that arm exactly where
 -- it makes true all literals on the way through p and those of the arm.

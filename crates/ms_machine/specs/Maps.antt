@@ -1,5 +1,5 @@
 -- What a map of ints makes of states, segments and what comes after them.
-use Rattle.std.specs.Prelude.{◌≡◌, ℤ, List, map}
+use Rattle.std.specs.Prelude.{◌≡◌, ℤ, List, map, Option}
 use Rattle.std.specs.Option.{option_map}
 use Rattle.ms_words.specs.declared.operator.Bin.{Bin}
 use Rattle.ms_machine.specs.Ints.{Ints}
@@ -24,8 +24,11 @@ map_value f (Throwable number class) = Throwable number class
 abbrev pub map_values : {V W : Type 0} → (V → W) → List (Value V) → List (Value W)
 map_values f values = map (map_value f) values
 
+abbrev pub map_locals : {V W : Type 0} → (V → W) → List (Option (Value V)) → List (Option (Value W))
+map_locals f locals = map (option_map (map_value f)) locals
+
 abbrev pub map_static : {V W : Type 0} → (V → W) → Static V → Static W
-map_static f static = record { class = static.class; name = static.name; value = map_value f static.value }
+map_static f static = record { class = static.class; name = static.name; descriptor = static.descriptor; value = map_value f static.value }
 
 abbrev pub map_memory : {V W : Type 0} → (V → W) → Memory V → Memory W
 map_memory f memory = record {
@@ -36,10 +39,10 @@ map_memory f memory = record {
 }
 
 abbrev pub map_here : {V W : Type 0} → (V → W) → Here V → Here W
-map_here f here = record { locals = map_values f here.locals; stack = map_values f here.stack; memory = map_memory f here.memory }
+map_here f here = record { locals = map_locals f here.locals; stack = map_values f here.stack; memory = map_memory f here.memory }
 
 abbrev pub map_end : {V W : Type 0} → (V → W) → End V → End W
-map_end f (Returned v) = Returned (map_value f v)
+map_end f (Returned v) = Returned (f v)
 map_end f ReturnedVoid = ReturnedVoid
 map_end f (Threw class) = Threw class
 map_end f (InitFailed class) = InitFailed class
@@ -63,7 +66,7 @@ map_effect f (Does doing) = Does (map_doing f doing)
 map_effect f (Asks test arms) = Asks (map_test f test) (λ arm. map_doing f (arms arm))
 
 abbrev pub map_frame : {V W : Type 0} → (V → W) → Frame V → Frame W
-map_frame f frame = record { at = frame.at; locals = map_values f frame.locals; stack = map_values f frame.stack; initialises = frame.initialises }
+map_frame f frame = record { at = frame.at; locals = map_locals f frame.locals; stack = map_values f frame.stack; initialises = frame.initialises }
 
 abbrev pub map_state : {V W : Type 0} → (V → W) → State V → State W
 map_state f state = record { top = map_frame f state.top; below = map (map_frame f) state.below; memory = map_memory f state.memory }

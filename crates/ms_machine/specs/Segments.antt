@@ -3,7 +3,7 @@ use Rattle.std.specs.Prelude.{ℕ, zero, suc, ℤ, List, [], ◌∷◌, Option, 
 use Rattle.ms_words.specs.declared.item.Item.{Item}
 use Rattle.ms_machine.specs.Ints.{Ints}
 use Rattle.ms_machine.specs.Effects.{Test, End, Runaway}
-use Rattle.ms_machine.specs.Control.{Program, Done, Goes, Ends, Step, Then, Chooses, step}
+use Rattle.ms_machine.specs.Control.{Views, Done, Goes, Ends, Step, Then, Chooses, step}
 use Rattle.ms_machine.specs.Tests.{arm_of, known_test}
 
 -- what comes after a segment: a choice, with what is done for each arm, or the end
@@ -31,15 +31,16 @@ abbrev pub followed : {V : Type 0} → Ints V → (Done V → Segment V) → Ste
 followed I go (Then done) = go done
 followed I go (Chooses test arms) = forked test arms go (known_test I test)
 
--- the run up to the next choice or the end, executing at most n instructions; where that doesn't do it is a runaway
-abbrev pub segment_within : {V : Type 0} → Ints V → Program → ℕ → Done V → Segment V
+-- The run up to the next choice or the end. One that has executed n instructions and comes to neither
+-- with the n-th is a runaway. A test that is no choice counts as its instruction does, once.
+abbrev pub segment_within : {V : Type 0} → Ints V → Views → ℕ → Done V → Segment V
 segment_within I P n (Ends end) = nothing_then (Over end)
 segment_within I P zero (Goes state) = nothing_then (Over Runaway)
 segment_within I P (suc n) (Goes state) = item_then state.top.at (followed I (segment_within I P n) (step I P state))
 
--- the most instructions that a segment executes
+-- the most instructions that a segment executes: a bound of this project, not of the standard
 unfoldable pub most_instructions : ℕ
 most_instructions = 20000
 
-abbrev pub segment_from : {V : Type 0} → Ints V → Program → Done V → Segment V
+abbrev pub segment_from : {V : Type 0} → Ints V → Views → Done V → Segment V
 segment_from I P done = segment_within I P most_instructions done

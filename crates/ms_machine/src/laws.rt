@@ -25,5 +25,5 @@ pub fn inputs_share_shadows()
 /// same kinds takes the string with that arm exactly where it makes true each literal on the way through
 /// the string and those of the arm. It does nothing.
 pub fn takes_where_literals_hold()
-    ensures { (P : Program) → IsDecoded P → LawOfTheString P }
+    ensures { (P : Program) → IsDecoded P.view → LawOfTheString P }
 {}
