@@ -26,7 +26,7 @@ pub record Line : Type 0 where
 abbrev line : ℕ → Instr → ℕ → List ℕ → Line
 line offset instr after targets = record { offset = offset; instr = instr; after = after; targets = targets }
 
-abbrev at : ℕ → Item
+abbrev pub at : ℕ → Item
 at offset = At 0 0 offset
 
 abbrev items : List ℕ → List Item
@@ -55,12 +55,12 @@ method kinds lines = record { entry = record { kinds = kinds; result = Some I; f
 -- TWO TRUTH VALUES: f(ZZ)I with iload_0, ifeq 6, iconst_1, ireturn, 6: iload_1, ifne 12, iconst_2, ireturn,
 -- 12: iconst_0, ireturn
 
-abbrev truths : Program
+abbrev pub truths : Program
 truths = method (Z ∷ Z ∷ []) (line 0 (Load 0) 1 [] ∷ line 1 (CompareZero Eq) 4 (6 ∷ []) ∷ line 4 (Push (pos 1)) 5 [] ∷ line 5 ReturnValue 6 []
     ∷ line 6 (Load 1) 7 [] ∷ line 7 (CompareZero Ne) 10 (12 ∷ []) ∷ line 10 (Push (pos 2)) 11 [] ∷ line 11 ReturnValue 12 []
     ∷ line 12 (Push (pos 0)) 13 [] ∷ line 13 ReturnValue 14 [] ∷ [])
 
-abbrev two : ℤ → ℤ → Words
+abbrev pub two : ℤ → ℤ → Words
 two a b = record { kinds = Z ∷ Z ∷ []; words = a ∷ b ∷ [] }
 
 string_11 : string truths (two (pos 1) (pos 1)) 2 ≡ 0 ∷ []

@@ -1,4 +1,5 @@
 mod Example
+mod Parts
 pub mod EffectMap
 pub mod ControlMap
 pub mod RunMap
@@ -7,3 +8,4 @@ pub mod Back
 pub mod Runs
 pub mod Literals
 pub mod Paths
+pub mod Order

@@ -13,7 +13,7 @@ use Rattle.ms_machine.specs.Effects.{Test, Instr, Push, Load, Combine, Compare, 
 use Rattle.ms_machine.specs.Control.{Program, View, Views, Done, start}
 use Rattle.ms_machine.specs.Tests.{Literal, arm_of, arms_of, map_test}
 use Rattle.ms_machine.specs.Segments.{After, Choice, Over, Segment, segment_from, segment_within}
-use Rattle.ms_machine.specs.Runs.{IsMet, Takes, after_arms, footprint, segment_after, started, string, string_from, way, with_entry}
+use Rattle.ms_machine.specs.Runs.{IsLeast, IsMet, Takes, after_arms, footprint, segment_after, started, string, string_from, way, with_entry}
 use Rattle.ms_machine.specs.Maps.{map_done, map_segment}
 
 -- there is one word for each kind
@@ -106,3 +106,9 @@ condition P kinds p = way shadows P.view (shadow_started P kinds) p
 abbrev pub LawOfTheString : Program → Type 0
 LawOfTheString P = (x y : Words) → IsWhole x → IsWhole y → x.kinds ≡ y.kinds → (p : List ℕ) (arm : ℕ) → Takes P y p → HasArm (shadow_after P x.kinds p).after arm
     → Takes P x (p ++ arm ∷ []) ↔ AllByRecursion (IsMet x) (condition P x.kinds (p ++ arm ∷ []))
+
+-- LEAST INPUTS
+
+-- a string has at most one least input
+abbrev pub LeastIsUnique : Program → Type 0
+LeastIsUnique P = (p : List ℕ) (x y : Words) → IsLeast P p x → IsLeast P p y → x ≡ y

@@ -97,15 +97,15 @@ footprint P x p = firsts (with_entry p (segment_after P x p).trace)
 -- LEAST INPUTS
 
 -- x is an input of the entry
-pub record IsInput (P : Program) (x : Words) : Type 0 where
+pub record IsInputOf (P : Program) (x : Words) : Type 0 where
   pub kinds : x.kinds ≡ P.entry.kinds
   pub words : IsTrue (are_of x.kinds x.words)
 
 -- x is the first input that takes p
 pub record IsLeast (P : Program) (p : List ℕ) (x : Words) : Type 0 where
-  pub input : IsInput P x
+  pub input : IsInputOf P x
   pub takes : Takes P x p
-  pub first : (y : Words) → IsInput P y → Takes P y p → IsTrue (comes_before P.entry.kinds y.words x.words) → ⊥
+  pub first : (y : Words) → IsInputOf P y → Takes P y p → IsTrue (comes_before P.entry.kinds y.words x.words) → ⊥
 
 -- THE WAY OF A STRING
 

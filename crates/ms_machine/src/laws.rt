@@ -1,6 +1,6 @@
 ghost use Rattle.ms_words.specs.Inputs.{Words};
 ghost use Rattle.ms_machine.specs.Control.{Program};
-ghost use Rattle.ms_machine.specs.Laws.{IsDecoded, IsWhole, LawOfTheString, MarksAreRight, SharesShadows, WordsAreValues};
+ghost use Rattle.ms_machine.specs.Laws.{IsDecoded, IsWhole, LawOfTheString, LeastIsUnique, MarksAreRight, SharesShadows, WordsAreValues};
 
 /// The word of every int is the value of its shadow on the input, after any number of steps. It does
 /// nothing.
@@ -26,4 +26,9 @@ pub fn inputs_share_shadows()
 /// the string and those of the arm. It does nothing.
 pub fn takes_where_literals_hold()
     ensures { (P : Program) → IsDecoded P.view → LawOfTheString P }
+{}
+
+/// A string has at most one least input. It does nothing.
+pub fn least_is_unique()
+    ensures { (P : Program) → LeastIsUnique P }
 {}

@@ -8,5 +8,6 @@
 mod laws;
 
 pub use laws::{
-    inputs_share_shadows, marks_are_right, takes_where_literals_hold, words_are_values,
+    inputs_share_shadows, least_is_unique, marks_are_right, takes_where_literals_hold,
+    words_are_values,
 };
