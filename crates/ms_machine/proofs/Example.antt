@@ -13,7 +13,7 @@ use Rattle.ms_machine.specs.Ints.{ints}
 use Rattle.ms_machine.specs.Effects.{Instr, Push, Load, Combine, Compare, CompareZero, ReturnValue, Returned}
 use Rattle.ms_machine.specs.Control.{Program, View, Views, NoInitialiser}
 use Rattle.ms_machine.specs.Segments.{most_instructions}
-use Rattle.ms_machine.specs.Runs.{Ended, Cut, end_of, footprint, string, started, way}
+use Rattle.ms_machine.specs.Runs.{Ended, Cut, end_of, footprint, segment_after, string, started, way}
 
 -- A METHOD, instruction by instruction: its offset, what it is, the offset after it, its targets
 
@@ -93,6 +93,11 @@ footprint_none : footprint truths (two (pos 0) (pos 0)) [] ≡ Entry ∷ at 0 �
 unfolding most_instructions
 footprint_none = refl
 
+-- each execution of an instruction stands once in the trace
+trace_none : (segment_after truths (two (pos 0) (pos 0)) []).trace ≡ at 0 ∷ at 1 ∷ []
+unfolding most_instructions
+trace_none = refl
+
 footprint_1 : footprint truths (two (pos 0) (pos 0)) (1 ∷ []) ≡ at 6 ∷ at 7 ∷ []
 unfolding most_instructions
 footprint_1 = refl
@@ -104,12 +109,12 @@ footprint_10 = refl
 -- A CHOICE WITHIN AN ARM: f(ZI)I with iload_0, ifne 6, iconst_1, ireturn, 6: iload_1, iconst_5, if_icmplt 13,
 -- iconst_2, ireturn, 13: iconst_3, ireturn
 
-abbrev nested : Program
+abbrev pub nested : Program
 nested = method (Z ∷ I ∷ []) (line 0 (Load 0) 1 [] ∷ line 1 (CompareZero Ne) 4 (6 ∷ []) ∷ line 4 (Push (pos 1)) 5 [] ∷ line 5 ReturnValue 6 []
     ∷ line 6 (Load 1) 7 [] ∷ line 7 (Push (pos 5)) 8 [] ∷ line 8 (Compare Lt) 11 (13 ∷ []) ∷ line 11 (Push (pos 2)) 12 [] ∷ line 12 ReturnValue 13 []
     ∷ line 13 (Push (pos 3)) 14 [] ∷ line 14 ReturnValue 15 [] ∷ [])
 
-abbrev truth_and : ℤ → ℤ → Words
+abbrev pub truth_and : ℤ → ℤ → Words
 truth_and a b = record { kinds = Z ∷ I ∷ []; words = a ∷ b ∷ [] }
 
 nested_0 : string nested (truth_and (pos 0) (negsuc 0)) 8 ≡ 0 ∷ []

@@ -1,5 +1,6 @@
 mod Example
 mod Parts
+mod Instances
 pub mod EffectMap
 pub mod ControlMap
 pub mod RunMap

@@ -2,14 +2,14 @@
 use Rattle.std.proofs.Common.{◌≡◌, ℕ, zero, suc, List, ◌∷◌, refl, ap, ◌∙◌}
 use Rattle.ms_words.specs.Inputs.{Words}
 use Rattle.ms_words.specs.Items.{firsts}
-use Rattle.ms_machine.specs.Ints.{Ints, Int, ints, marks, shadows}
+use Rattle.ms_machine.specs.Ints.{Ints, Int, Marked, ints, marks, shadows}
 use Rattle.ms_machine.specs.Effects.{Test, Compares, Divides, Selects, Indexes}
 use Rattle.ms_machine.specs.Control.{Program, Views, Done, start}
 use Rattle.ms_machine.specs.Tests.{map_test}
 use Rattle.ms_machine.specs.Segments.{After, Choice, Over, Segment, segment_from, segment_within}
-use Rattle.ms_machine.specs.Runs.{after_arms, arms_at, segment_after, started, string_from, with_entry, word_arm}
-use Rattle.ms_machine.specs.Maps.{Respects, map_after, map_done, map_segment}
-use Rattle.ms_machine.specs.Laws.{IsWhole, MarksAreRight, SharesShadows, WordsAreValues, int_of, mark_arm, mark_of, parameters_from, shadow_after, shadow_started}
+use Rattle.ms_machine.specs.Runs.{after_arms, arms_at, end_at, given, segment_after, started, string, string_from, with_entry, word_arm}
+use Rattle.ms_machine.specs.Maps.{Respects, map_after, map_done, map_run_end, map_segment}
+use Rattle.ms_machine.specs.Laws.{IsWhole, MarksAreRight, SharesShadows, WordsAreValues, int_of, mark_arm, mark_of, marked_start, parameters_from, shadow_after, shadow_started}
 use Rattle.ms_machine.proofs.ControlMap.{start_map}
 use Rattle.ms_machine.proofs.RunMap.{after_arms_map, segment_from_map, segment_map}
 use Rattle.ms_machine.proofs.Back.{segment_back}
@@ -50,12 +50,28 @@ mark_alike (Divides b) = refl
 mark_alike (Selects a keys) = refl
 mark_alike (Indexes a len) = refl
 
+marked_is : (P : Program) (x : Words) → marked_start P x ≡ map_done mark_of (started P x)
+marked_is P x = start_map mark_of P (given x)
+
+end_at_map : {V W : Type 0} (f : V → W) (after : After V) → end_at (map_after f after) ≡ map_run_end f (end_at after)
+end_at_map f (Choice test arms) = refl
+end_at_map f (Over end) = refl
+
 pub marks_are_right : (P : Program) (x : Words) → MarksAreRight P x
-marks_are_right P x = record {
-  choices = λ depth. string_map ints marks mark_of marks_respect word_arm mark_arm mark_alike P.view depth (started P x);
-  segments = λ p. ap (segment_from marks P.view) (after_arms_map ints marks mark_of marks_respect P.view p (started P x))
-      ∙ segment_from_map ints marks mark_of marks_respect P.view (after_arms ints P.view (started P x) p);
-}
+marks_are_right P x =
+    let choices : (depth : ℕ) → string_from marks P.view mark_arm depth (marked_start P x) ≡ string P x depth =
+    λ depth. ap (string_from marks P.view mark_arm depth) (marked_is P x) ∙ string_map ints marks mark_of marks_respect word_arm mark_arm mark_alike P.view depth (started P x) in
+    let segments : (p : List ℕ) → segment_from marks P.view (after_arms marks P.view (marked_start P x) p) ≡ map_segment mark_of (segment_after P x p) =
+    λ p. ap (λ done. segment_from marks P.view (after_arms marks P.view done p)) (marked_is P x)
+    ∙ ap (segment_from marks P.view) (after_arms_map ints marks mark_of marks_respect P.view p (started P x))
+    ∙ segment_from_map ints marks mark_of marks_respect P.view (after_arms ints P.view (started P x) p) in
+    record {
+      choices = choices;
+      ends = λ depth. ap (λ p. end_at (segment_from marks P.view (after_arms marks P.view (marked_start P x) p)).after) (choices depth)
+          ∙ ap (λ (segment : Segment Marked). end_at segment.after) (segments (string P x depth))
+          ∙ end_at_map mark_of (segment_after P x (string P x depth)).after;
+      segments = segments;
+    }
 
 -- ANY TWO INPUTS
 

@@ -1,5 +1,5 @@
 -- Laws of the machine over whole runs, and the runs that they compare.
-use Rattle.std.specs.Prelude.{◌≡◌, ℕ, suc, ◌<◌, ◌↔◌, ℤ, List, [], ◌∷◌, ◌++◌, length, Some}
+use Rattle.std.specs.Prelude.{◌≡◌, ℕ, suc, ◌<◌, ◌↔◌, ℤ, List, [], ◌∷◌, ◌++◌, length, map, Some}
 use Rattle.std.specs.List.{AllByRecursion}
 use Rattle.ms_words.specs.declared.item.Item.{Item}
 use Rattle.ms_words.specs.declared.operator.Rel.{Rel}
@@ -13,8 +13,8 @@ use Rattle.ms_machine.specs.Effects.{Test, Instr, Push, Load, Combine, Compare, 
 use Rattle.ms_machine.specs.Control.{Program, View, Views, Done, start}
 use Rattle.ms_machine.specs.Tests.{Literal, arm_of, arms_of, map_test}
 use Rattle.ms_machine.specs.Segments.{After, Choice, Over, Segment, segment_from, segment_within}
-use Rattle.ms_machine.specs.Runs.{IsLeast, IsMet, Takes, after_arms, footprint, segment_after, started, string, string_from, way, with_entry}
-use Rattle.ms_machine.specs.Maps.{map_done, map_segment}
+use Rattle.ms_machine.specs.Runs.{IsLeast, IsMet, Takes, after_arms, end_from, end_of, footprint, given, segment_after, started, string, string_from, way, with_entry}
+use Rattle.ms_machine.specs.Maps.{map_done, map_run_end, map_segment}
 
 -- there is one word for each kind
 abbrev pub IsWhole : Words → Type 0
@@ -51,14 +51,19 @@ pub record WordsAreValues (P : Program) (x : Words) : Type 0 where
 abbrev pub mark_of : Int → Marked
 mark_of a = record { word = a.word; plain = is_constant a.shadow }
 
+-- the arm that a test takes by its words
 abbrev pub mark_arm : Test Marked → ℕ
 mark_arm test = arm_of (map_test (λ a. a.word) test)
+
+abbrev pub marked_start : Program → Words → Done Marked
+marked_start P x = start P (map mark_of (given x))
 
 -- The machine with marks runs as the one with shadows: it has the same choices, takes the same arms,
 -- executes the same items, and ends alike.
 pub record MarksAreRight (P : Program) (x : Words) : Type 0 where
-  pub choices : (depth : ℕ) → string_from marks P.view mark_arm depth (map_done mark_of (started P x)) ≡ string P x depth
-  pub segments : (p : List ℕ) → segment_from marks P.view (after_arms marks P.view (map_done mark_of (started P x)) p) ≡ map_segment mark_of (segment_after P x p)
+  pub choices : (depth : ℕ) → string_from marks P.view mark_arm depth (marked_start P x) ≡ string P x depth
+  pub ends : (depth : ℕ) → end_from marks P.view mark_arm depth (marked_start P x) ≡ map_run_end mark_of (end_of P x depth)
+  pub segments : (p : List ℕ) → segment_from marks P.view (after_arms marks P.view (marked_start P x) p) ≡ map_segment mark_of (segment_after P x p)
 
 -- ANY TWO INPUTS
 

@@ -7,6 +7,7 @@ use Rattle.ms_machine.specs.Effects.{Value, Int, Null, Array, Text, Throwable, S
 use Rattle.ms_machine.specs.Control.{Frame, State, Done, Goes, Ends, Step, Then, Chooses}
 use Rattle.ms_machine.specs.Tests.{map_test}
 use Rattle.ms_machine.specs.Segments.{After, Choice, Over, Segment}
+use Rattle.ms_machine.specs.Runs.{RunEnd, Ended, Cut}
 
 -- the map keeps constants, what operators give, and what is known
 pub record Respects {V W : Type 0} (I : Ints V) (J : Ints W) (f : V → W) : Type 0 where
@@ -82,6 +83,10 @@ map_step f (Chooses test arms) = Chooses (map_test f test) (λ arm. map_done f (
 abbrev pub map_after : {V W : Type 0} → (V → W) → After V → After W
 map_after f (Choice test arms) = Choice (map_test f test) (λ arm. map_done f (arms arm))
 map_after f (Over end) = Over (map_end f end)
+
+abbrev pub map_run_end : {V W : Type 0} → (V → W) → RunEnd V → RunEnd W
+map_run_end f (Ended end) = Ended (map_end f end)
+map_run_end f Cut = Cut
 
 abbrev pub map_segment : {V W : Type 0} → (V → W) → Segment V → Segment W
 map_segment f segment = record { trace = segment.trace; after = map_after f segment.after }
