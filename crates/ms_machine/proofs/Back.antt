@@ -7,7 +7,7 @@ use Rattle.ms_machine.specs.Tests.{map_test}
 use Rattle.ms_machine.specs.Segments.{After, Choice, Over, Segment}
 use Rattle.ms_machine.specs.Maps.{map_after, map_done, map_end, map_frame, map_memory, map_segment, map_static, map_value, map_values}
 
-list_back : {A B : Type 0} (f : A → B) (g : B → A) → ((a : A) → g (f a) ≡ a) → (xs : List A) → map g (map f xs) ≡ xs
+pub list_back : {A B : Type 0} (f : A → B) (g : B → A) → ((a : A) → g (f a) ≡ a) → (xs : List A) → map g (map f xs) ≡ xs
 list_back f g each [] = refl
 list_back f g each (x ∷ xs) = λ i. each x i ∷ list_back f g each xs i
 
@@ -52,7 +52,7 @@ module _ {V W : Type 0} (f : V → W) (g : W → V) (each : (a : V) → g (f a) 
   frame_back : (frame : Frame V) → map_frame g (map_frame f frame) ≡ frame
   frame_back frame = λ i. record { at = frame.at; locals = list_back (option_map (map_value f)) (option_map (map_value g)) held_back frame.locals i; stack = values_back frame.stack i; initialises = frame.initialises }
 
-  done_back : (done : Done V) → map_done g (map_done f done) ≡ done
+  pub done_back : (done : Done V) → map_done g (map_done f done) ≡ done
   done_back (Goes state) = λ i. Goes (record {
     top = frame_back state.top i;
     below = list_back (map_frame f) (map_frame g) frame_back state.below i;

@@ -6,11 +6,11 @@ use Rattle.ms_words.specs.declared.item.Item.TheVariants.{Entry, At}
 use Rattle.ms_words.specs.declared.kind.Kind.{Kind}
 use Rattle.ms_words.specs.declared.kind.Kind.TheVariants.{Z, I}
 use Rattle.ms_words.specs.declared.operator.Bin.TheVariants.{Sub}
-use Rattle.ms_words.specs.declared.operator.Rel.TheVariants.{Eq, Ne, Lt}
+use Rattle.ms_words.specs.declared.operator.Rel.TheVariants.{Lt}
 use Rattle.ms_words.specs.Inputs.{Words}
 use Rattle.ms_terms.specs.Terms.{Constant, Param, Binary}
 use Rattle.ms_machine.specs.Ints.{ints}
-use Rattle.ms_machine.specs.Effects.{Instr, Push, Load, Combine, Compare, CompareZero, ReturnValue, Returned}
+use Rattle.ms_machine.specs.Effects.{Instr, Push, Load, Combine, Compare, CompareZero, Less, Equal, NotEqual, ReturnValue, Returned}
 use Rattle.ms_machine.specs.Control.{Program, View, Views, NoInitialiser}
 use Rattle.ms_machine.specs.Segments.{most_instructions}
 use Rattle.ms_machine.specs.Runs.{Ended, Cut, end_of, footprint, segment_after, string, started, way}
@@ -56,8 +56,8 @@ method kinds lines = record { entry = record { kinds = kinds; result = Some I; f
 -- 12: iconst_0, ireturn
 
 abbrev pub truths : Program
-truths = method (Z ∷ Z ∷ []) (line 0 (Load 0) 1 [] ∷ line 1 (CompareZero Eq) 4 (6 ∷ []) ∷ line 4 (Push (pos 1)) 5 [] ∷ line 5 ReturnValue 6 []
-    ∷ line 6 (Load 1) 7 [] ∷ line 7 (CompareZero Ne) 10 (12 ∷ []) ∷ line 10 (Push (pos 2)) 11 [] ∷ line 11 ReturnValue 12 []
+truths = method (Z ∷ Z ∷ []) (line 0 (Load 0) 1 [] ∷ line 1 (CompareZero Equal) 4 (6 ∷ []) ∷ line 4 (Push (pos 1)) 5 [] ∷ line 5 ReturnValue 6 []
+    ∷ line 6 (Load 1) 7 [] ∷ line 7 (CompareZero NotEqual) 10 (12 ∷ []) ∷ line 10 (Push (pos 2)) 11 [] ∷ line 11 ReturnValue 12 []
     ∷ line 12 (Push (pos 0)) 13 [] ∷ line 13 ReturnValue 14 [] ∷ [])
 
 abbrev pub two : ℤ → ℤ → Words
@@ -110,8 +110,8 @@ footprint_10 = refl
 -- iconst_2, ireturn, 13: iconst_3, ireturn
 
 abbrev pub nested : Program
-nested = method (Z ∷ I ∷ []) (line 0 (Load 0) 1 [] ∷ line 1 (CompareZero Ne) 4 (6 ∷ []) ∷ line 4 (Push (pos 1)) 5 [] ∷ line 5 ReturnValue 6 []
-    ∷ line 6 (Load 1) 7 [] ∷ line 7 (Push (pos 5)) 8 [] ∷ line 8 (Compare Lt) 11 (13 ∷ []) ∷ line 11 (Push (pos 2)) 12 [] ∷ line 12 ReturnValue 13 []
+nested = method (Z ∷ I ∷ []) (line 0 (Load 0) 1 [] ∷ line 1 (CompareZero NotEqual) 4 (6 ∷ []) ∷ line 4 (Push (pos 1)) 5 [] ∷ line 5 ReturnValue 6 []
+    ∷ line 6 (Load 1) 7 [] ∷ line 7 (Push (pos 5)) 8 [] ∷ line 8 (Compare Less) 11 (13 ∷ []) ∷ line 11 (Push (pos 2)) 12 [] ∷ line 12 ReturnValue 13 []
     ∷ line 13 (Push (pos 3)) 14 [] ∷ line 14 ReturnValue 15 [] ∷ [])
 
 abbrev pub truth_and : ℤ → ℤ → Words
@@ -142,8 +142,8 @@ nested_end = refl
 -- iload_0, if_icmplt 15, iconst_0, ireturn, 15: iload_0, ireturn
 
 abbrev constants : Program
-constants = method (I ∷ []) (line 0 (Push (pos 2)) 1 [] ∷ line 1 (Push (pos 3)) 2 [] ∷ line 2 (Compare Lt) 5 (6 ∷ []) ∷ line 6 (Load 0) 7 [] ∷ line 7 (Push (pos 1)) 8 []
-    ∷ line 8 (Combine Sub) 9 [] ∷ line 9 (Load 0) 10 [] ∷ line 10 (Compare Lt) 13 (15 ∷ []) ∷ line 13 (Push (pos 0)) 14 [] ∷ line 14 ReturnValue 15 [] ∷ line 15 (Load 0) 16 []
+constants = method (I ∷ []) (line 0 (Push (pos 2)) 1 [] ∷ line 1 (Push (pos 3)) 2 [] ∷ line 2 (Compare Less) 5 (6 ∷ []) ∷ line 6 (Load 0) 7 [] ∷ line 7 (Push (pos 1)) 8 []
+    ∷ line 8 (Combine Sub) 9 [] ∷ line 9 (Load 0) 10 [] ∷ line 10 (Compare Less) 13 (15 ∷ []) ∷ line 13 (Push (pos 0)) 14 [] ∷ line 14 ReturnValue 15 [] ∷ line 15 (Load 0) 16 []
     ∷ line 16 ReturnValue 17 [] ∷ [])
 
 abbrev one : ℤ → Words

@@ -6,10 +6,28 @@ use Rattle.ms_words.specs.declared.operator.Rel.TheVariants.{Eq, Ne, Lt, Ge, Gt,
 use Rattle.ms_words.specs.Relations.{int_eq, related}
 use Rattle.ms_words.specs.Inputs.{Words}
 use Rattle.ms_terms.specs.Terms.{Term, Constant, value}
-use Rattle.ms_machine.specs.Effects.{Test, Compares, Divides, Selects, Indexes}
+use Rattle.ms_machine.specs.Effects.{Comparison, Equal, NotEqual, Less, AtLeast, Greater, AtMost, relation, Test, Compares, Divides, Selects, Indexes}
 use Rattle.ms_machine.specs.Tests.{arms_of, literals, map_test, opposite}
 use Rattle.ms_machine.specs.Runs.{IsMet, word_arm}
-use Rattle.ms_machine.specs.Laws.{IsOrdinary, int_of}
+use Rattle.ms_machine.specs.Laws.{int_of}
+
+-- a relation of a branch: each of the seven but that of an index
+abbrev pub IsOrdinary : Rel → Type 0
+IsOrdinary Eq = Unit {0}
+IsOrdinary Ne = Unit {0}
+IsOrdinary Lt = Unit {0}
+IsOrdinary Ge = Unit {0}
+IsOrdinary Gt = Unit {0}
+IsOrdinary Le = Unit {0}
+IsOrdinary Uge = ⊥
+
+pub relation_ordinary : (comparison : Comparison) → IsOrdinary (relation comparison)
+relation_ordinary Equal = tt
+relation_ordinary NotEqual = tt
+relation_ordinary Less = tt
+relation_ordinary AtLeast = tt
+relation_ordinary Greater = tt
+relation_ordinary AtMost = tt
 
 twice_not : (b : Bool) → not (not b) ≡ b
 twice_not true = refl
@@ -37,7 +55,7 @@ taken : (b : Bool) → (◌≡◌ {A = ℕ} (cond b 1 0) 1) ↔ (IsTrue b × Uni
 taken true = (λ h. (refl, tt), λ h. refl)
 taken false = (λ h. absurd (omega arith), λ h. not_so h.0)
 
--- a test of a relation that an instruction may have
+-- a test that an instruction of today may ask
 abbrev pub IsOrdinaryTest : Test Term → Type 0
 IsOrdinaryTest (Compares rel a b) = IsOrdinary rel
 IsOrdinaryTest (Divides b) = ⊥

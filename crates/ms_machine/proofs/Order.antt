@@ -6,7 +6,7 @@ use Rattle.ms_words.specs.declared.kind.Kind.{Kind}
 use Rattle.ms_words.specs.declared.kind.Kind.TheVariants.{Z, B, C, S, I}
 use Rattle.ms_words.specs.Inputs.{are_of, comes_before, is_of, unsigned_of}
 use Rattle.ms_machine.specs.Control.{Program}
-use Rattle.ms_machine.specs.Laws.{LeastIsUnique}
+use Rattle.ms_machine.specs.Laws.{LeastIsFirst, LeastIsUnique}
 
 low : (n m : ℕ) → IsTrue (nat_lt n m) → n < m
 low n m h = grind (arith, nat_tests)
@@ -55,12 +55,15 @@ not_so : (b : Bool) → (IsTrue b → ⊥) → b ≡ false
 not_so true h = absurd (h refl)
 not_so false h = refl
 
-pub least_is_unique : (P : Program) → LeastIsUnique P
-least_is_unique P p x y least least' =
-    let kinds : x.kinds ≡ y.kinds = least.input.kinds ∙ sym least'.input.kinds in
+pub least_is_first : (P : Program) → LeastIsFirst P
+least_is_first P p x y least input takes not_before =
     let words : x.words ≡ y.words = same_words P.entry.kinds x.words y.words
     (subst (λ ks. IsTrue (are_of ks x.words)) least.input.kinds least.input.words)
-    (subst (λ ks. IsTrue (are_of ks y.words)) least'.input.kinds least'.input.words)
-    (not_so _ (least'.first x least.input least.takes))
-    (not_so _ (least.first y least'.input least'.takes)) in
+    (subst (λ ks. IsTrue (are_of ks y.words)) input.kinds input.words)
+    not_before
+    (not_so _ (least.first y input takes)) in
+    let kinds : x.kinds ≡ y.kinds = least.input.kinds ∙ sym input.kinds in
     λ i. record { kinds = kinds i; words = words i }
+
+pub least_is_unique : (P : Program) → LeastIsUnique P
+least_is_unique P p x y least least' = least_is_first P p x y least least'.input least'.takes (not_so _ (least'.first x least.input least.takes))

@@ -9,12 +9,12 @@ use Rattle.ms_machine.specs.Control.{Program, Views, State, View, Done, Goes, En
 use Rattle.ms_machine.specs.Tests.{arm_of, arms_of, known_test, literals}
 use Rattle.ms_machine.specs.Segments.{After, Choice, Over, Segment, followed, forked, most_instructions, segment_from, segment_within}
 use Rattle.ms_machine.specs.Runs.{IsMet, after_arms, arms_at, done_after, next_literals, string, string_from, way, word_arm}
-use Rattle.ms_machine.specs.Laws.{HasArm, IsDecoded, IsOrdinaryInstr, IsWhole, LawOfTheString, int_of, shadow_started}
-use Rattle.ms_machine.proofs.Literals.{IsOrdinaryTest, arm_is_met, arm_on, arm_within}
+use Rattle.ms_machine.specs.Laws.{HasArm, IsWhole, LawOfTheString, int_of, shadow_started}
+use Rattle.ms_machine.proofs.Literals.{IsOrdinaryTest, relation_ordinary, arm_is_met, arm_on, arm_within}
 use Rattle.ms_machine.proofs.Runs.{started_values, string_map}
 use Rattle.ms_machine.proofs.Values.{values_respect}
 
--- THE TESTS OF A DECODED PROGRAM
+-- THE TESTS OF A PROGRAM
 
 abbrev IsOrdinaryEffect : Effect Term → Type 0
 IsOrdinaryEffect (Does doing) = Unit {0}
@@ -38,14 +38,14 @@ on_some_ordinary : {A : Type 0} (o : Option A) (go : A → Effect Term) → ((a 
 on_some_ordinary None go all = tt
 on_some_ordinary (Some v) go all = all v
 
-effect_ordinary : (instr : Instr) → IsOrdinaryInstr instr → (here : Here Term) → IsOrdinaryEffect (effect shadows instr here)
-effect_ordinary (Push word) h here = tt
-effect_ordinary (Load local) h here = on_some_ordinary (slice_get here.locals local) (λ held. on_some held (λ v. Does (next here (v ∷ here.stack))))
+effect_ordinary : (instr : Instr) (here : Here Term) → IsOrdinaryEffect (effect shadows instr here)
+effect_ordinary (Push word) here = tt
+effect_ordinary (Load local) here = on_some_ordinary (slice_get here.locals local) (λ held. on_some held (λ v. Does (next here (v ∷ here.stack))))
     (λ held. on_some_ordinary held (λ v. Does (next here (v ∷ here.stack))) (λ v. tt))
-effect_ordinary (Combine op) h here = on_int_ordinary here.stack _ (λ b rest. on_int_ordinary rest _ (λ a below. tt))
-effect_ordinary (Compare rel) h here = on_int_ordinary here.stack _ (λ b rest. on_int_ordinary rest _ (λ a below. h))
-effect_ordinary (CompareZero rel) h here = on_int_ordinary here.stack _ (λ a below. h)
-effect_ordinary ReturnValue h here = on_top_ordinary here.stack _ (λ v below. tt)
+effect_ordinary (Combine op) here = on_int_ordinary here.stack _ (λ b rest. on_int_ordinary rest _ (λ a below. tt))
+effect_ordinary (Compare comparison) here = on_int_ordinary here.stack _ (λ b rest. on_int_ordinary rest _ (λ a below. relation_ordinary comparison))
+effect_ordinary (CompareZero comparison) here = on_int_ordinary here.stack _ (λ a below. relation_ordinary comparison)
+effect_ordinary ReturnValue here = on_top_ordinary here.stack _ (λ v below. tt)
 
 abbrev IsOrdinaryStep : Step Term → Type 0
 IsOrdinaryStep (Then done) = Unit {0}
@@ -55,13 +55,13 @@ performed_ordinary : (P : Views) (state : State Term) (e : Effect Term) → IsOr
 performed_ordinary P state (Does doing) h = tt
 performed_ordinary P state (Asks test arms) h = h
 
-viewed_ordinary : (o : Option View) (go : View → Step Term) → ((view : View) → o ≡ Some view → IsOrdinaryStep (go view)) → IsOrdinaryStep (viewed o (Then (Ends Stuck)) go)
+viewed_ordinary : (o : Option View) (go : View → Step Term) → ((view : View) → IsOrdinaryStep (go view)) → IsOrdinaryStep (viewed o (Then (Ends Stuck)) go)
 viewed_ordinary None go all = tt
-viewed_ordinary (Some view) go all = all view refl
+viewed_ordinary (Some view) go all = all view
 
-step_ordinary : (P : Views) → IsDecoded P → (state : State Term) → IsOrdinaryStep (step shadows P state)
-step_ordinary P decoded state = viewed_ordinary (P state.top.at) _
-    (λ view is. performed_ordinary P state (effect shadows view.instr (here_of state)) (effect_ordinary view.instr (decoded.instrs state.top.at view is) (here_of state)))
+step_ordinary : (P : Views) → (state : State Term) → IsOrdinaryStep (step shadows P state)
+step_ordinary P state = viewed_ordinary (P state.top.at) _
+    (λ view. performed_ordinary P state (effect shadows view.instr (here_of state)) (effect_ordinary view.instr (here_of state)))
 
 abbrev pub IsOrdinaryAfter : After Term → Type 0
 IsOrdinaryAfter (Choice test arms) = IsOrdinaryTest test
@@ -75,14 +75,14 @@ followed_ordinary : (go : Done Term → Segment Term) → ((done : Done Term) �
 followed_ordinary go all (Then done) h = all done
 followed_ordinary go all (Chooses test arms) h = forked_ordinary test h arms go all (known_test shadows test)
 
-within_ordinary : (P : Views) → IsDecoded P → (n : ℕ) (done : Done Term) → IsOrdinaryAfter (segment_within shadows P n done).after
-within_ordinary P decoded zero (Ends end) = tt
-within_ordinary P decoded zero (Goes state) = tt
-within_ordinary P decoded (suc n) (Ends end) = tt
-within_ordinary P decoded (suc n) (Goes state) = followed_ordinary (segment_within shadows P n) (within_ordinary P decoded n) (step shadows P state) (step_ordinary P decoded state)
+within_ordinary : (P : Views) → (n : ℕ) (done : Done Term) → IsOrdinaryAfter (segment_within shadows P n done).after
+within_ordinary P zero (Ends end) = tt
+within_ordinary P zero (Goes state) = tt
+within_ordinary P (suc n) (Ends end) = tt
+within_ordinary P (suc n) (Goes state) = followed_ordinary (segment_within shadows P n) (within_ordinary P n) (step shadows P state) (step_ordinary P state)
 
-segment_ordinary : (P : Views) → IsDecoded P → (done : Done Term) → IsOrdinaryAfter (segment_from shadows P done).after
-segment_ordinary P decoded done = within_ordinary P decoded most_instructions done
+segment_ordinary : (P : Views) → (done : Done Term) → IsOrdinaryAfter (segment_from shadows P done).after
+segment_ordinary P done = within_ordinary P most_instructions done
 
 -- PATHS: strings of arms, each an arm of the choice that comes
 
@@ -121,22 +121,22 @@ at_met x (Choice test arms_then) go arm arms h has =
     )
 at_met x (Over end) go arm arms h has = absurd has
 
-taken_is_path : (P : Views) → IsDecoded P → (x : Words) (p : List ℕ) (done : Done Term) → string_from shadows P (arm_on x) (length p) done ≡ p → IsPath P done p
-taken_is_path P decoded x [] done is = tt
-taken_is_path P decoded x (arm ∷ arms) done is =
-    let once = at_once x (segment_from shadows P done).after (string_from shadows P (arm_on x) (length arms)) arm arms (segment_ordinary P decoded done) is in
-    (once.0, taken_is_path P decoded x arms (done_after (segment_from shadows P done).after arm) once.1)
+taken_is_path : (P : Views) → (x : Words) (p : List ℕ) (done : Done Term) → string_from shadows P (arm_on x) (length p) done ≡ p → IsPath P done p
+taken_is_path P x [] done is = tt
+taken_is_path P x (arm ∷ arms) done is =
+    let once = at_once x (segment_from shadows P done).after (string_from shadows P (arm_on x) (length arms)) arm arms (segment_ordinary P done) is in
+    (once.0, taken_is_path P x arms (done_after (segment_from shadows P done).after arm) once.1)
 
 all_joined : {A : Type 0} (Q : A → Type 0) (xs ys : List A) → AllByRecursion Q (xs ++ ys) ↔ (AllByRecursion Q xs × AllByRecursion Q ys)
 all_joined Q [] ys = (λ h. (tt, h), λ h. h.1)
 all_joined Q (x ∷ xs) ys = (λ h. ((h.0, ((all_joined Q xs ys).0 h.1).0), ((all_joined Q xs ys).0 h.1).1), λ h. (h.0.0, (all_joined Q xs ys).1 (h.0.1, h.1)))
 
-path_is_met : (P : Views) → IsDecoded P → (x : Words) (p : List ℕ) (done : Done Term) → IsPath P done p → (string_from shadows P (arm_on x) (length p) done ≡ p) ↔ AllByRecursion (IsMet x) (way shadows P done p)
-path_is_met P decoded x [] done path = (λ h. tt, λ h. refl)
-path_is_met P decoded x (arm ∷ arms) done path =
+path_is_met : (P : Views) → (x : Words) (p : List ℕ) (done : Done Term) → IsPath P done p → (string_from shadows P (arm_on x) (length p) done ≡ p) ↔ AllByRecursion (IsMet x) (way shadows P done p)
+path_is_met P x [] done path = (λ h. tt, λ h. refl)
+path_is_met P x (arm ∷ arms) done path =
     let after = (segment_from shadows P done).after in
-    let here = at_met x after (string_from shadows P (arm_on x) (length arms)) arm arms (segment_ordinary P decoded done) path.0 in
-    let there = path_is_met P decoded x arms (done_after after arm) path.1 in
+    let here = at_met x after (string_from shadows P (arm_on x) (length arms)) arm arms (segment_ordinary P done) path.0 in
+    let there = path_is_met P x arms (done_after after arm) path.1 in
     let joined = all_joined (IsMet x) (next_literals shadows after arm) (way shadows P (done_after after arm) arms) in
     (λ is. joined.1 ((here.0 is).0, there.0 (here.0 is).1), λ all. here.1 ((joined.0 all).0, there.1 (joined.0 all).1))
 
@@ -146,10 +146,10 @@ string_is : (P : Program) (x : Words) → IsWhole x → (depth : ℕ) → string
 string_is P x whole depth = ap (string_from ints P.view word_arm depth) (started_values P x whole)
     ∙ string_map shadows ints (int_of x.words) (values_respect x.words) (arm_on x) word_arm (λ test. refl) P.view depth (shadow_started P x.kinds)
 
-pub law_of_the_string : (P : Program) → IsDecoded P.view → LawOfTheString P
-law_of_the_string P decoded x y whole whole' kinds p arm takes has =
+pub law_of_the_string : (P : Program) → LawOfTheString P
+law_of_the_string P x y whole whole' kinds p arm takes has =
     let path : IsPath P.view (shadow_started P x.kinds) p = subst (λ ks. IsPath P.view (shadow_started P ks) p) (sym kinds)
-    (taken_is_path P.view decoded y p (shadow_started P y.kinds) (sym (string_is P y whole' (length p)) ∙ takes)) in
-    let met = path_is_met P.view decoded x (p ++ arm ∷ []) (shadow_started P x.kinds) (path_then P.view (shadow_started P x.kinds) p arm path has) in
+    (taken_is_path P.view y p (shadow_started P y.kinds) (sym (string_is P y whole' (length p)) ∙ takes)) in
+    let met = path_is_met P.view x (p ++ arm ∷ []) (shadow_started P x.kinds) (path_then P.view (shadow_started P x.kinds) p arm path has) in
     let same = string_is P x whole (length (p ++ arm ∷ [])) in
     (λ is. met.0 (sym same ∙ is), λ all. same ∙ met.1 all)

@@ -1,12 +1,14 @@
 -- Segments, strings and what comes after arms commute with a map of ints.
-use Rattle.std.proofs.Common.{◌≡◌, ℕ, zero, suc, ℤ, List, [], ◌∷◌, Option, Some, None, refl, ap, ◌∙◌}
+use Rattle.std.proofs.Common.{◌≡◌, ℕ, zero, suc, ℤ, pos, Bool, true, false, cond, nat_lt, List, [], ◌∷◌, ◌++◌, map, Option, Some, None, refl, sym, ap, ◌∙◌}
+use Rattle.std.proofs.lemmas.List.{map-append}
+use Rattle.ms_words.specs.declared.operator.Rel.TheVariants.{Eq, Ne, Uge}
 use Rattle.ms_machine.specs.Ints.{Ints}
 use Rattle.ms_machine.specs.Effects.{Test, Compares, Divides, Selects, Indexes}
 use Rattle.ms_machine.specs.Control.{Views, Done, Goes, Ends, Step, Then, Chooses, step}
-use Rattle.ms_machine.specs.Tests.{arm_of, both_known, known_test, map_test, one_known}
-use Rattle.ms_machine.specs.Segments.{After, Choice, Over, Segment, followed, forked, item_then, most_instructions, segment_from, segment_within}
-use Rattle.ms_machine.specs.Runs.{after_arms, done_after}
-use Rattle.ms_machine.specs.Maps.{Respects, map_after, map_done, map_segment, map_step}
+use Rattle.ms_machine.specs.Tests.{arm_of, both_known, known_test, literals, map_literal, map_test, none_of, one_known, selected}
+use Rattle.ms_machine.specs.Segments.{After, Choice, Over, Segment, advanced, done_within, followed, forked, item_then, most_instructions, past, segment_from, segment_within}
+use Rattle.ms_machine.specs.Runs.{after_arms, done_after, next_literals, way}
+use Rattle.ms_machine.specs.Maps.{Respects, map_after, map_done, map_segment, map_state, map_step}
 use Rattle.ms_machine.proofs.ControlMap.{step_map}
 
 module _ {V W : Type 0} (I : Ints V) (J : Ints W) (f : V → W) (r : Respects I J f) where
@@ -50,3 +52,62 @@ module _ {V W : Type 0} (I : Ints V) (J : Ints W) (f : V → W) (r : Respects I 
       ap (λ segment. after_arms J P (done_after segment.after arm) arms) (segment_from_map P done)
       ∙ ap (λ next. after_arms J P next arms) (done_after_map (segment_from I P done).after arm)
       ∙ after_arms_map P arms (done_after (segment_from I P done).after arm)
+
+  -- STEPS
+
+  past_map : (here : Done V) (arms : ℕ → Done V) (go : Done V → Done V) (go' : Done W → Done W) → ((done : Done V) → go' (map_done f done) ≡ map_done f (go done)) → (known : Option (Test ℤ))
+      → past (map_done f here) (λ arm. map_done f (arms arm)) go' known ≡ map_done f (past here arms go known)
+  past_map here arms go go' same None = refl
+  past_map here arms go go' same (Some words) = same (arms (arm_of words))
+
+  advanced_map : (here : Done V) (go : Done V → Done V) (go' : Done W → Done W) → ((done : Done V) → go' (map_done f done) ≡ map_done f (go done)) → (taken : Step V)
+      → advanced J (map_done f here) go' (map_step f taken) ≡ map_done f (advanced I here go taken)
+  advanced_map here go go' same (Then done) = same done
+  advanced_map here go go' same (Chooses test arms) =
+      ap (past (map_done f here) (λ arm. map_done f (arms arm)) go') (known_map test) ∙ past_map here arms go go' same (known_test I test)
+
+  pub done_within_map : (P : Views) (n : ℕ) (done : Done V) → done_within J P n (map_done f done) ≡ map_done f (done_within I P n done)
+  done_within_map P zero done = refl
+  done_within_map P (suc n) (Ends end) = refl
+  done_within_map P (suc n) (Goes state) =
+      ap (advanced J (Goes (map_state f state)) (done_within J P n)) (step_map f I J r P state)
+      ∙ advanced_map (Goes state) (done_within I P n) (done_within J P n) (done_within_map P n) (step I P state)
+
+  -- LITERALS
+
+  none_of_map : (a : V) (keys : List ℤ) → none_of J.constant (f a) keys ≡ map (map_literal f) (none_of I.constant a keys)
+  none_of_map a [] = refl
+  none_of_map a (key ∷ keys) = λ i. record { rel = Ne; a = f a; b = sym (r.constant key) i } ∷ none_of_map a keys i
+
+  selected_map : (a : V) (all keys : List ℤ) (arm : ℕ) → selected J.constant (f a) all keys arm ≡ map (map_literal f) (selected I.constant a all keys arm)
+  selected_map a all [] arm = none_of_map a all
+  selected_map a all (key ∷ keys) zero = λ i. record { rel = Eq; a = f a; b = sym (r.constant key) i } ∷ []
+  selected_map a all (key ∷ keys) (suc arm) = selected_map a all keys arm
+
+  ranged_map : (a : V) (within : Bool) (arm len : ℕ)
+      → cond within (record { rel = Eq; a = f a; b = J.constant (pos arm) } ∷ []) (record { rel = Uge; a = f a; b = J.constant (pos len) } ∷ [])
+      ≡ map (map_literal f) (cond within (record { rel = Eq; a = a; b = I.constant (pos arm) } ∷ []) (record { rel = Uge; a = a; b = I.constant (pos len) } ∷ []))
+  ranged_map a true arm len = λ i. record { rel = Eq; a = f a; b = sym (r.constant (pos arm)) i } ∷ []
+  ranged_map a false arm len = λ i. record { rel = Uge; a = f a; b = sym (r.constant (pos len)) i } ∷ []
+
+  literals_map : (test : Test V) (arm : ℕ) → literals J.constant (map_test f test) arm ≡ map (map_literal f) (literals I.constant test arm)
+  literals_map (Compares rel a b) zero = refl
+  literals_map (Compares rel a b) (suc arm) = refl
+  literals_map (Divides b) zero = λ i. record { rel = Ne; a = f b; b = sym (r.constant (pos 0)) i } ∷ []
+  literals_map (Divides b) (suc arm) = λ i. record { rel = Eq; a = f b; b = sym (r.constant (pos 0)) i } ∷ []
+  literals_map (Selects a keys) arm = selected_map a keys keys arm
+  literals_map (Indexes a len) arm = ranged_map a (nat_lt arm len) arm len
+
+  next_literals_map : (after : After V) (arm : ℕ) → next_literals J (map_after f after) arm ≡ map (map_literal f) (next_literals I after arm)
+  next_literals_map (Choice test arms) arm = literals_map test arm
+  next_literals_map (Over end) arm = refl
+
+  pub way_map : (P : Views) (arms : List ℕ) (done : Done V) → way J P (map_done f done) arms ≡ map (map_literal f) (way I P done arms)
+  way_map P [] done = refl
+  way_map P (arm ∷ arms) done =
+      let after = (segment_from I P done).after in
+      ap (λ segment. next_literals J segment.after arm ++ way J P (done_after segment.after arm) arms) (segment_from_map P done)
+      ∙ ap (λ next. next_literals J (map_after f after) arm ++ way J P next arms) (done_after_map after arm)
+      ∙ ap (λ others. next_literals J (map_after f after) arm ++ others) (way_map P arms (done_after after arm))
+      ∙ ap (λ first. first ++ map (map_literal f) (way I P (done_after after arm) arms)) (next_literals_map after arm)
+      ∙ sym (map-append (map_literal f) (next_literals I after arm) (way I P (done_after after arm) arms))

@@ -1,18 +1,19 @@
 -- The laws over whole runs.
-use Rattle.std.proofs.Common.{◌≡◌, ℕ, zero, suc, List, ◌∷◌, refl, ap, ◌∙◌}
+use Rattle.std.proofs.Common.{◌≡◌, ℕ, zero, suc, ℤ, List, ◌∷◌, map, refl, sym, ap, ◌∙◌}
+use Rattle.ms_terms.specs.Terms.{Term}
 use Rattle.ms_words.specs.Inputs.{Words}
 use Rattle.ms_words.specs.Items.{firsts}
 use Rattle.ms_machine.specs.Ints.{Ints, Int, Marked, ints, marks, shadows}
 use Rattle.ms_machine.specs.Effects.{Test, Compares, Divides, Selects, Indexes}
 use Rattle.ms_machine.specs.Control.{Program, Views, Done, start}
-use Rattle.ms_machine.specs.Tests.{map_test}
-use Rattle.ms_machine.specs.Segments.{After, Choice, Over, Segment, segment_from, segment_within}
-use Rattle.ms_machine.specs.Runs.{after_arms, arms_at, end_at, given, segment_after, started, string, string_from, with_entry, word_arm}
+use Rattle.ms_machine.specs.Tests.{Literal, map_literal, map_test}
+use Rattle.ms_machine.specs.Segments.{After, Choice, Over, Segment, done_within, segment_from}
+use Rattle.ms_machine.specs.Runs.{after_arms, arms_at, end_at, footprint, given, segment_after, started, string, string_from, way, with_entry, word_arm}
 use Rattle.ms_machine.specs.Maps.{Respects, map_after, map_done, map_run_end, map_segment}
-use Rattle.ms_machine.specs.Laws.{IsWhole, MarksAreRight, SharesShadows, WordsAreValues, int_of, mark_arm, mark_of, marked_start, parameters_from, shadow_after, shadow_started}
+use Rattle.ms_machine.specs.Laws.{IsWhole, MarksAreRight, NeedsNoInput, SharesShadows, WordsAreValues, condition, int_of, mark_arm, mark_of, marked_start, parameters_from, shadow_after, shadow_of, shadow_started}
 use Rattle.ms_machine.proofs.ControlMap.{start_map}
-use Rattle.ms_machine.proofs.RunMap.{after_arms_map, segment_from_map, segment_map}
-use Rattle.ms_machine.proofs.Back.{segment_back}
+use Rattle.ms_machine.proofs.RunMap.{after_arms_map, done_within_map, segment_from_map, way_map}
+use Rattle.ms_machine.proofs.Back.{done_back, list_back, segment_back}
 use Rattle.ms_machine.proofs.Values.{given_values, marks_respect, values_respect}
 
 -- strings, where both decide alike
@@ -33,13 +34,20 @@ module _ {V W : Type 0} (I : Ints V) (J : Ints W) (f : V → W) (r : Respects I 
 pub started_values : (P : Program) (x : Words) → IsWhole x → started P x ≡ map_done (int_of x.words) (shadow_started P x.kinds)
 started_values P x whole = ap (start P) (given_values x whole) ∙ start_map (int_of x.words) P (parameters_from 0 x.kinds)
 
+segment_values : (P : Program) (x : Words) → IsWhole x → (p : List ℕ) → segment_after P x p ≡ map_segment (int_of x.words) (shadow_after P x.kinds p)
+segment_values P x whole p =
+    ap (λ done. segment_from ints P.view (after_arms ints P.view done p)) (started_values P x whole)
+    ∙ ap (segment_from ints P.view) (after_arms_map shadows ints (int_of x.words) (values_respect x.words) P.view p (shadow_started P x.kinds))
+    ∙ segment_from_map shadows ints (int_of x.words) (values_respect x.words) P.view (after_arms shadows P.view (shadow_started P x.kinds) p)
+
 pub words_are_values : (P : Program) (x : Words) → IsWhole x → WordsAreValues P x
 words_are_values P x whole =
     let run : (p : List ℕ) → after_arms ints P.view (started P x) p ≡ map_done (int_of x.words) (after_arms shadows P.view (shadow_started P x.kinds) p) =
     λ p. ap (λ done. after_arms ints P.view done p) (started_values P x whole) ∙ after_arms_map shadows ints (int_of x.words) (values_respect x.words) P.view p (shadow_started P x.kinds) in
     record {
       run = run;
-      steps = λ p n. ap (segment_within ints P.view n) (run p) ∙ segment_map shadows ints (int_of x.words) (values_respect x.words) P.view n (after_arms shadows P.view (shadow_started P x.kinds) p);
+      steps = λ p n. ap (done_within ints P.view n) (run p) ∙ done_within_map shadows ints (int_of x.words) (values_respect x.words) P.view n (after_arms shadows P.view (shadow_started P x.kinds) p);
+      segments = segment_values P x whole;
     }
 
 -- THE MARKS
@@ -73,17 +81,37 @@ marks_are_right P x =
       segments = segments;
     }
 
--- ANY TWO INPUTS
+-- WITH AND WITHOUT AN INPUT
 
-segment_values : (P : Program) (x : Words) → IsWhole x → (p : List ℕ) → segment_after P x p ≡ map_segment (int_of x.words) (shadow_after P x.kinds p)
-segment_values P x whole p =
-    ap (λ done. segment_from ints P.view (after_arms ints P.view done p)) (started_values P x whole)
-    ∙ ap (segment_from ints P.view) (after_arms_map shadows ints (int_of x.words) (values_respect x.words) P.view p (shadow_started P x.kinds))
-    ∙ segment_from_map shadows ints (int_of x.words) (values_respect x.words) P.view (after_arms shadows P.view (shadow_started P x.kinds) p)
+literal_back : (words : List ℤ) (literal : Literal Term) → map_literal shadow_of (map_literal (int_of words) literal) ≡ literal
+literal_back words literal = refl
 
-pub inputs_share_shadows : (P : Program) (x : Words) → IsWhole x → SharesShadows P x
-inputs_share_shadows P x whole = record {
-  segments = λ p. ap (map_segment (λ (a : Int). a.shadow)) (segment_values P x whole p)
-      ∙ segment_back (int_of x.words) (λ (a : Int). a.shadow) (λ term. refl) (shadow_after P x.kinds p);
-  footprints = λ p. ap (λ (segment : Segment Int). firsts (with_entry p segment.trace)) (segment_values P x whole p);
-}
+pub shadows_need_no_input : (P : Program) (x : Words) → IsWhole x → NeedsNoInput P x
+shadows_need_no_input P x whole =
+    let values : WordsAreValues P x = words_are_values P x whole in
+    record {
+      steps = λ p n. ap (map_done shadow_of) (values.steps p n)
+          ∙ done_back (int_of x.words) shadow_of (λ term. refl) (done_within shadows P.view n (after_arms shadows P.view (shadow_started P x.kinds) p));
+      segments = λ p. ap (map_segment shadow_of) (segment_values P x whole p)
+          ∙ segment_back (int_of x.words) shadow_of (λ term. refl) (shadow_after P x.kinds p);
+      conditions = λ p. ap (λ done. map (map_literal shadow_of) (way ints P.view done p)) (started_values P x whole)
+          ∙ ap (map (map_literal shadow_of)) (way_map shadows ints (int_of x.words) (values_respect x.words) P.view p (shadow_started P x.kinds))
+          ∙ list_back (map_literal (int_of x.words)) (map_literal shadow_of) (literal_back x.words) (condition P x.kinds p);
+    }
+
+footprint_shadows : (P : Program) (x : Words) → IsWhole x → (p : List ℕ) → footprint P x p ≡ firsts (with_entry p (shadow_after P x.kinds p).trace)
+footprint_shadows P x whole p = ap (λ (segment : Segment Int). firsts (with_entry p segment.trace)) (segment_values P x whole p)
+
+pub inputs_share_shadows : (P : Program) (x y : Words) → IsWhole x → IsWhole y → x.kinds ≡ y.kinds → SharesShadows P x y
+inputs_share_shadows P x y whole whole' kinds =
+    let of_x : NeedsNoInput P x = shadows_need_no_input P x whole in
+    let of_y : NeedsNoInput P y = shadows_need_no_input P y whole' in
+    record {
+      steps = λ p n. of_x.steps p n
+          ∙ ap (λ ks. done_within shadows P.view n (after_arms shadows P.view (shadow_started P ks) p)) kinds
+          ∙ sym (of_y.steps p n);
+      segments = λ p. of_x.segments p ∙ ap (λ ks. shadow_after P ks p) kinds ∙ sym (of_y.segments p);
+      footprints = λ p. footprint_shadows P x whole p
+          ∙ ap (λ ks. firsts (with_entry p (shadow_after P ks p).trace)) kinds
+          ∙ sym (footprint_shadows P y whole' p);
+    }

@@ -15,7 +15,7 @@ pub record Handler : Type 0 where
   pub begins : Item
   pub catches : Thrown
 
--- Of an instruction: what it is, the instruction behind it, its targets and the handlers that cover it,
+-- Of an instruction: what it is, the next instruction, its targets and the handlers that cover it,
 -- in table order, and for a member the first instructions of its method and of its class's initialiser.
 pub record View : Type 0 where
   pub instr : Instr
@@ -141,7 +141,7 @@ returns P result memory None (caller ∷ below) = viewed (P caller.at) (Ends Stu
 unfoldable pub most_frames : ℕ
 most_frames = 256
 
--- a new frame stands above, unless as many stand as may
+-- a new frame stands above, unless as many as may stand already
 abbrev pub enters : {V : Type 0} → Option Item → List (Option (Value V)) → Option ℕ → Frame V → List (Frame V) → Memory V → Done V
 enters None locals initialises caller below memory = Ends Stuck
 enters (Some item) locals initialises caller below memory =

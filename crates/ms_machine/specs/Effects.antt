@@ -3,10 +3,28 @@
 use Rattle.std.specs.Prelude.{ℕ, zero, suc, ℤ, pos, List, [], ◌∷◌, Option, Some, None, slice_get}
 use Rattle.ms_words.specs.declared.operator.Bin.{Bin}
 use Rattle.ms_words.specs.declared.operator.Rel.{Rel}
+use Rattle.ms_words.specs.declared.operator.Rel.TheVariants.{Eq, Ne, Lt, Ge, Gt, Le}
 use Rattle.ms_words.specs.declared.thrown.Thrown.{Thrown}
 use Rattle.ms_machine.specs.Ints.{Ints}
 
 -- INSTRUCTIONS, by what they do
+
+-- what a branch compares by: the six relations of the instruction set
+pub data Comparison : Type 0 where
+  Equal : Comparison
+  NotEqual : Comparison
+  Less : Comparison
+  AtLeast : Comparison
+  Greater : Comparison
+  AtMost : Comparison
+
+abbrev pub relation : Comparison → Rel
+relation Equal = Eq
+relation NotEqual = Ne
+relation Less = Lt
+relation AtLeast = Ge
+relation Greater = Gt
+relation AtMost = Le
 
 pub data Instr : Type 0 where
   -- puts a word on the stack
@@ -16,9 +34,9 @@ pub data Instr : Type 0 where
   -- replaces two ints by what the operator gives
   Combine : Bin → Instr
   -- takes two ints, and branches where the relation holds
-  Compare : Rel → Instr
+  Compare : Comparison → Instr
   -- takes an int, and branches where the relation to 0 holds
-  CompareZero : Rel → Instr
+  CompareZero : Comparison → Instr
   -- takes a value and returns it
   ReturnValue : Instr
 
@@ -81,7 +99,7 @@ pub data Doing (V : Type 0) : Type 0 where
   Moves : Where → Here V → Doing V
   -- calls the member's method with these arguments
   Calls : List (Value V) → Here V → Doing V
-  -- runs the initialiser of a class first: nothing is popped, and the class is marked as started
+  -- runs the initialiser of a class first: nothing is popped, and the memory has the class marked as started already
   Initialises : ℕ → Here V → Doing V
   -- returns to the frame below
   Returns : Option (Value V) → Memory V → Doing V
@@ -146,6 +164,6 @@ abbrev pub effect : {V : Type 0} → Ints V → Instr → Here V → Effect V
 effect I (Push word) here = Does (next here (Int (I.constant word) ∷ here.stack))
 effect I (Load local) here = on_some (slice_get here.locals local) (λ held. on_some held (λ v. Does (next here (v ∷ here.stack))))
 effect I (Combine op) here = on_int here.stack (λ b rest. on_int rest (λ a below. Does (next here (Int (I.binary op a b) ∷ below))))
-effect I (Compare rel) here = on_int here.stack (λ b rest. on_int rest (λ a below. Asks (Compares rel a b) (by_arm (next here below) (jump here below))))
-effect I (CompareZero rel) here = on_int here.stack (λ a below. Asks (Compares rel a (I.constant (pos 0))) (by_arm (next here below) (jump here below)))
+effect I (Compare comparison) here = on_int here.stack (λ b rest. on_int rest (λ a below. Asks (Compares (relation comparison) a b) (by_arm (next here below) (jump here below))))
+effect I (CompareZero comparison) here = on_int here.stack (λ a below. Asks (Compares (relation comparison) a (I.constant (pos 0))) (by_arm (next here below) (jump here below)))
 effect I ReturnValue here = on_top here.stack (λ v below. Does (Returns (Some v) here.memory))

@@ -1,22 +1,18 @@
 -- Laws of the machine over whole runs, and the runs that they compare.
-use Rattle.std.specs.Prelude.{◌≡◌, ℕ, suc, ◌<◌, ◌↔◌, ℤ, List, [], ◌∷◌, ◌++◌, length, map, Some}
+use Rattle.std.specs.Prelude.{◌≡◌, false, ℕ, suc, ◌<◌, ◌↔◌, ℤ, List, [], ◌∷◌, ◌++◌, length, map}
 use Rattle.std.specs.List.{AllByRecursion}
-use Rattle.ms_words.specs.declared.item.Item.{Item}
-use Rattle.ms_words.specs.declared.operator.Rel.{Rel}
-use Rattle.ms_words.specs.declared.operator.Rel.TheVariants.{Eq, Ne, Lt, Ge, Gt, Le, Uge}
 use Rattle.ms_words.specs.declared.kind.Kind.{Kind}
-use Rattle.ms_words.specs.Inputs.{Words}
-use Rattle.ms_words.specs.Items.{firsts}
+use Rattle.ms_words.specs.Inputs.{Words, comes_before}
 use Rattle.ms_terms.specs.Terms.{Term, Param, is_constant, value}
 use Rattle.ms_machine.specs.Ints.{Int, Marked, ints, marks, shadows}
-use Rattle.ms_machine.specs.Effects.{Test, Instr, Push, Load, Combine, Compare, CompareZero, ReturnValue}
-use Rattle.ms_machine.specs.Control.{Program, View, Views, Done, start}
-use Rattle.ms_machine.specs.Tests.{Literal, arm_of, arms_of, map_test}
-use Rattle.ms_machine.specs.Segments.{After, Choice, Over, Segment, segment_from, segment_within}
-use Rattle.ms_machine.specs.Runs.{IsLeast, IsMet, Takes, after_arms, end_from, end_of, footprint, given, segment_after, started, string, string_from, way, with_entry}
+use Rattle.ms_machine.specs.Effects.{Test}
+use Rattle.ms_machine.specs.Control.{Program, Done, start}
+use Rattle.ms_machine.specs.Tests.{Literal, arm_of, arms_of, map_literal, map_test}
+use Rattle.ms_machine.specs.Segments.{After, Choice, Over, Segment, done_within, segment_from}
+use Rattle.ms_machine.specs.Runs.{IsInputOf, IsLeast, IsMet, Takes, after_arms, end_from, end_of, footprint, given, segment_after, started, string, string_from, way}
 use Rattle.ms_machine.specs.Maps.{map_done, map_run_end, map_segment}
 
--- there is one word for each kind
+-- there is one word for each kind, as in each input of an entry
 abbrev pub IsWhole : Words → Type 0
 IsWhole x = length x.words ≡ length x.kinds
 
@@ -30,7 +26,7 @@ parameters_from index (kind ∷ kinds) = Param index kind ∷ parameters_from (s
 abbrev pub shadow_started : Program → List Kind → Done Term
 shadow_started P kinds = start P (parameters_from 0 kinds)
 
--- the segment after p, of terms alone
+-- the segment after p, of terms alone; of the entry where these are its kinds
 abbrev pub shadow_after : Program → List Kind → List ℕ → Segment Term
 shadow_after P kinds p = segment_from shadows P.view (after_arms shadows P.view (shadow_started P kinds) p)
 
@@ -38,16 +34,17 @@ shadow_after P kinds p = segment_from shadows P.view (after_arms shadows P.view 
 abbrev pub int_of : List ℤ → Term → Int
 int_of words term = record { word = value words term; shadow = term }
 
--- The word of every int is the value of its shadow on the input: a run of x is that of terms, each with
--- its value, after any arms and within any number of instructions.
+-- The word of every int is the value of its shadow on the input: the run of x is that of terms, each
+-- with its value, after any arms, after any number of instructions then, and in the segment that comes.
 pub record WordsAreValues (P : Program) (x : Words) : Type 0 where
   pub run : (p : List ℕ) → after_arms ints P.view (started P x) p ≡ map_done (int_of x.words) (after_arms shadows P.view (shadow_started P x.kinds) p)
-  pub steps : (p : List ℕ) (n : ℕ) → segment_within ints P.view n (after_arms ints P.view (started P x) p)
-      ≡ map_segment (int_of x.words) (segment_within shadows P.view n (after_arms shadows P.view (shadow_started P x.kinds) p))
+  pub steps : (p : List ℕ) (n : ℕ) → done_within ints P.view n (after_arms ints P.view (started P x) p)
+      ≡ map_done (int_of x.words) (done_within shadows P.view n (after_arms shadows P.view (shadow_started P x.kinds) p))
+  pub segments : (p : List ℕ) → segment_after P x p ≡ map_segment (int_of x.words) (shadow_after P x.kinds p)
 
 -- THE MACHINE WITH MARKS
 
--- an int with the mark that says whether a parameter entered it
+-- an int with the mark that says whether no parameter entered it
 abbrev pub mark_of : Int → Marked
 mark_of a = record { word = a.word; plain = is_constant a.shadow }
 
@@ -65,54 +62,51 @@ pub record MarksAreRight (P : Program) (x : Words) : Type 0 where
   pub ends : (depth : ℕ) → end_from marks P.view mark_arm depth (marked_start P x) ≡ map_run_end mark_of (end_of P x depth)
   pub segments : (p : List ℕ) → segment_from marks P.view (after_arms marks P.view (marked_start P x) p) ≡ map_segment mark_of (segment_after P x p)
 
--- ANY TWO INPUTS
+-- WITH AND WITHOUT AN INPUT
 
--- The segment after p, with the words left out, is the same for all inputs of the kinds, whether they
--- take p or not: the same shadows, the same control flow, the same items.
-pub record SharesShadows (P : Program) (x : Words) : Type 0 where
-  pub segments : (p : List ℕ) → map_segment (λ (a : Int). a.shadow) (segment_after P x p) ≡ shadow_after P x.kinds p
-  pub footprints : (p : List ℕ) → footprint P x p ≡ firsts (with_entry p (shadow_after P x.kinds p).trace)
+abbrev pub shadow_of : Int → Term
+shadow_of a = a.shadow
+
+-- the literals on the way through p, over the parameters
+abbrev pub condition : Program → List Kind → List ℕ → List (Literal Term)
+condition P kinds p = way shadows P.view (shadow_started P kinds) p
+
+-- The run of x, with the words left out, is that of the machine whose ints are terms, which has no input:
+-- after any arms and any number of instructions then, in the segment that comes, and in the literals on
+-- the way. The arms need not be those that x takes.
+pub record NeedsNoInput (P : Program) (x : Words) : Type 0 where
+  pub steps : (p : List ℕ) (n : ℕ) → map_done shadow_of (done_within ints P.view n (after_arms ints P.view (started P x) p))
+      ≡ done_within shadows P.view n (after_arms shadows P.view (shadow_started P x.kinds) p)
+  pub segments : (p : List ℕ) → map_segment shadow_of (segment_after P x p) ≡ shadow_after P x.kinds p
+  pub conditions : (p : List ℕ) → map (map_literal shadow_of) (way ints P.view (started P x) p) ≡ condition P x.kinds p
+
+-- Two inputs have the same shadows and the same control flow after the same arms, step by step, and the
+-- same footprint.
+pub record SharesShadows (P : Program) (x y : Words) : Type 0 where
+  pub steps : (p : List ℕ) (n : ℕ) → map_done shadow_of (done_within ints P.view n (after_arms ints P.view (started P x) p))
+      ≡ map_done shadow_of (done_within ints P.view n (after_arms ints P.view (started P y) p))
+  pub segments : (p : List ℕ) → map_segment shadow_of (segment_after P x p) ≡ map_segment shadow_of (segment_after P y p)
+  pub footprints : (p : List ℕ) → footprint P x p ≡ footprint P y p
 
 -- WHICH INPUTS TAKE A STRING
-
--- a relation that an instruction may have: each but the one of an index
-abbrev pub IsOrdinary : Rel → Type 0
-IsOrdinary Eq = Unit {0}
-IsOrdinary Ne = Unit {0}
-IsOrdinary Lt = Unit {0}
-IsOrdinary Ge = Unit {0}
-IsOrdinary Gt = Unit {0}
-IsOrdinary Le = Unit {0}
-IsOrdinary Uge = ⊥
-
-abbrev pub IsOrdinaryInstr : Instr → Type 0
-IsOrdinaryInstr (Push word) = Unit {0}
-IsOrdinaryInstr (Load local) = Unit {0}
-IsOrdinaryInstr (Combine op) = Unit {0}
-IsOrdinaryInstr (Compare rel) = IsOrdinary rel
-IsOrdinaryInstr (CompareZero rel) = IsOrdinary rel
-IsOrdinaryInstr ReturnValue = Unit {0}
-
--- what a decoder makes sure of: each branch has one of the six relations of the instruction set
-pub record IsDecoded (P : Views) : Type 0 where
-  pub instrs : (item : Item) (view : View) → P item ≡ Some view → IsOrdinaryInstr view.instr
 
 -- a choice comes, and has this arm
 abbrev pub HasArm : {V : Type 0} → After V → ℕ → Type 0
 HasArm (Choice test arms) arm = arm < arms_of test
 HasArm (Over end) arm = ⊥
 
--- the literals on the way through p, over the parameters
-abbrev pub condition : Program → List Kind → List ℕ → List (Literal Term)
-condition P kinds p = way shadows P.view (shadow_started P kinds) p
-
 -- Where some input takes p, and arm is one of the choice after it: x takes p with that arm exactly where
--- it makes true all literals on the way through p and those of the arm.
+-- it makes true all literals on the way through p and those of the arm. The way is that of each input that
+-- takes p, over the parameters.
 abbrev pub LawOfTheString : Program → Type 0
 LawOfTheString P = (x y : Words) → IsWhole x → IsWhole y → x.kinds ≡ y.kinds → (p : List ℕ) (arm : ℕ) → Takes P y p → HasArm (shadow_after P x.kinds p).after arm
     → Takes P x (p ++ arm ∷ []) ↔ AllByRecursion (IsMet x) (condition P x.kinds (p ++ arm ∷ []))
 
 -- LEAST INPUTS
+
+-- An input that takes p, and that the least one is not before, is the least one. So there is one at most.
+abbrev pub LeastIsFirst : Program → Type 0
+LeastIsFirst P = (p : List ℕ) (x y : Words) → IsLeast P p x → IsInputOf P y → Takes P y p → comes_before P.entry.kinds x.words y.words ≡ false → x ≡ y
 
 -- a string has at most one least input
 abbrev pub LeastIsUnique : Program → Type 0

@@ -44,3 +44,20 @@ most_instructions = 20000
 
 abbrev pub segment_from : {V : Type 0} → Ints V → Views → Done V → Segment V
 segment_from I P done = segment_within I P most_instructions done
+
+-- STEPS WITHIN A SEGMENT
+
+-- a test whose ints are known takes its arm; at a choice the run stands
+abbrev pub past : {V : Type 0} → Done V → (ℕ → Done V) → (Done V → Done V) → Option (Test ℤ) → Done V
+past here arms go None = here
+past here arms go (Some words) = go (arms (arm_of words))
+
+abbrev pub advanced : {V : Type 0} → Ints V → Done V → (Done V → Done V) → Step V → Done V
+advanced I here go (Then done) = go done
+advanced I here go (Chooses test arms) = past here arms go (known_test I test)
+
+-- where the run is after n instructions, or at the choice or the end that comes before
+abbrev pub done_within : {V : Type 0} → Ints V → Views → ℕ → Done V → Done V
+done_within I P zero done = done
+done_within I P (suc n) (Ends end) = Ends end
+done_within I P (suc n) (Goes state) = advanced I (Goes state) (done_within I P n) (step I P state)

@@ -11,7 +11,7 @@ use Rattle.ms_machine.specs.Effects.{Test, Compares, Divides, Selects, Indexes}
 
 -- ARMS
 
--- the place of the first key that is the word, or behind the last one
+-- the place of the first key that is the word, or the number of keys
 abbrev pub case_of : ℤ → List ℤ → ℕ
 case_of word [] = 0
 case_of word (key ∷ keys) = cond (int_eq word key) 0 (suc (case_of word keys))
@@ -67,6 +67,10 @@ pub record Literal (V : Type 0) : Type 0 where
   pub a : V
   pub b : V
 
+abbrev pub map_literal : {V W : Type 0} → (V → W) → Literal V → Literal W
+map_literal f literal = record { rel = literal.rel; a = f literal.a; b = f literal.b }
+
+-- the relation that holds where one of the six does not; the seventh is no branch's
 abbrev pub opposite : Rel → Rel
 opposite Eq = Ne
 opposite Ne = Eq
@@ -81,7 +85,7 @@ abbrev pub none_of : {V : Type 0} → (ℤ → V) → V → List ℤ → List (L
 none_of constant a [] = []
 none_of constant a (key ∷ keys) = record { rel = Ne; a = a; b = constant key } ∷ none_of constant a keys
 
--- the value is the key of the case, or for the default none of all keys
+-- the value is the key of the case (the keys of a switch differ), or for the default none of all keys
 abbrev pub selected : {V : Type 0} → (ℤ → V) → V → List ℤ → List ℤ → ℕ → List (Literal V)
 selected constant a all [] arm = none_of constant a all
 selected constant a all (key ∷ keys) zero = record { rel = Eq; a = a; b = constant key } ∷ []

@@ -1,34 +1,53 @@
+ghost use Rattle.std.specs.Prelude.{◌≡◌};
 ghost use Rattle.ms_words.specs.Inputs.{Words};
 ghost use Rattle.ms_machine.specs.Control.{Program};
-ghost use Rattle.ms_machine.specs.Laws.{IsDecoded, IsWhole, LawOfTheString, LeastIsUnique, MarksAreRight, SharesShadows, WordsAreValues};
+ghost use Rattle.ms_machine.specs.Laws.{
+  IsWhole,
+  LawOfTheString,
+  LeastIsFirst,
+  LeastIsUnique,
+  MarksAreRight,
+  NeedsNoInput,
+  SharesShadows,
+  WordsAreValues,
+};
 
-/// The word of every int is the value of its shadow on the input, after any number of steps. It does
-/// nothing.
+/// The word of every int is the value of its shadow on the input, after any number of steps.
 pub fn words_are_values()
     ensures { (P : Program) (x : Words) → IsWhole x → WordsAreValues P x }
 {}
 
 /// The machine whose ints are a word and a mark chooses and ends as the machine whose ints are a word
-/// and a shadow. It does nothing.
+/// and a shadow.
 pub fn marks_are_right()
     ensures { (P : Program) (x : Words) → MarksAreRight P x }
 {}
 
-/// Inputs of the same kinds have the same shadows, the same control flow and the same footprint through
-/// the segment after a string: those of the machine whose ints are terms, without any input. It does
-/// nothing.
+/// The run of an input, with the words left out, is that of the machine whose ints are terms, which has
+/// no input.
+pub fn shadows_need_no_input()
+    ensures { (P : Program) (x : Words) → IsWhole x → NeedsNoInput P x }
+{}
+
+/// Two inputs of the same kinds have the same shadows, the same control flow and the same footprint
+/// through the segment after a string.
 pub fn inputs_share_shadows()
-    ensures { (P : Program) (x : Words) → IsWhole x → SharesShadows P x }
+    ensures { (P : Program) (x y : Words) → IsWhole x → IsWhole y → x.kinds ≡ y.kinds → SharesShadows P x y }
 {}
 
 /// Where some input takes a string and an arm is one of the choice that comes after it, an input of the
 /// same kinds takes the string with that arm exactly where it makes true each literal on the way through
-/// the string and those of the arm. It does nothing.
+/// the string and those of the arm.
 pub fn takes_where_literals_hold()
-    ensures { (P : Program) → IsDecoded P.view → LawOfTheString P }
+    ensures { (P : Program) → LawOfTheString P }
 {}
 
-/// A string has at most one least input. It does nothing.
+/// An input that takes a string, and that its least input does not come before, is the least input.
+pub fn least_is_first()
+    ensures { (P : Program) → LeastIsFirst P }
+{}
+
+/// A string has at most one least input.
 pub fn least_is_unique()
     ensures { (P : Program) → LeastIsUnique P }
 {}

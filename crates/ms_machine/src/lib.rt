@@ -2,12 +2,15 @@
 //! segments, strings and footprints are (JVMS SE 8, chapters 2 and 6). It is one machine for any kind
 //! of ints: words with shadow terms, terms alone, or words with a mark.
 //!
-//! Its laws over whole runs are the contracts of functions that do nothing.
+//! So far it has the instructions that push a constant, load a local, compute with two ints, compare and
+//! return.
+//!
+//! Its laws over whole runs, of any program, are the contracts of functions that have no effect.
 #![tactic(auto)]
 
 mod laws;
 
 pub use laws::{
-    inputs_share_shadows, least_is_unique, marks_are_right, takes_where_literals_hold,
-    words_are_values,
+    inputs_share_shadows, least_is_first, least_is_unique, marks_are_right, shadows_need_no_input,
+    takes_where_literals_hold, words_are_values,
 };

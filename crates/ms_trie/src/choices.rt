@@ -1,10 +1,9 @@
 ghost use Rattle.std.specs.Prelude.{◌≡◌, ◌∷◌, ◌++◌, ◌<◌, ◌≤◌, [], length, OnOk, OnErr};
 
-use std::alloc::Global;
-use std::marker::Model;
-
 use ms_words::NoMemory;
 use smallvec::SmallVec;
+use std::alloc::Global;
+use std::marker::Model;
 
 /// How many arms of a string are kept without an allocation.
 const INLINE: usize = 16;
