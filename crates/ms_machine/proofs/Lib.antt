@@ -10,3 +10,4 @@ pub mod Runs
 pub mod Literals
 pub mod Paths
 pub mod Order
+pub mod Least

@@ -11,7 +11,7 @@ use Rattle.ms_machine.specs.Laws.{LeastIsFirst, LeastIsUnique}
 low : (n m : ℕ) → IsTrue (nat_lt n m) → n < m
 low n m h = grind (arith, nat_tests)
 
-same_word : (kind : Kind) (v w : ℤ) → IsTrue (is_of kind v) → IsTrue (is_of kind w) → unsigned_of kind v ≡ unsigned_of kind w → v ≡ w
+pub same_word : (kind : Kind) (v w : ℤ) → IsTrue (is_of kind v) → IsTrue (is_of kind w) → unsigned_of kind v ≡ unsigned_of kind w → v ≡ w
 same_word Z (pos m) (pos n) h k same = let a = low m 2 h in let b = low n 2 k in ap pos (omega arith)
 same_word Z (pos m) (negsuc n) h k same = absurd (cc)
 same_word Z (negsuc m) w h k same = absurd (cc)

@@ -111,3 +111,11 @@ LeastIsFirst P = (p : List ℕ) (x y : Words) → IsLeast P p x → IsInputOf P 
 -- a string has at most one least input
 abbrev pub LeastIsUnique : Program → Type 0
 LeastIsUnique P = (p : List ℕ) (x y : Words) → IsLeast P p x → IsLeast P p y → x ≡ y
+
+pub record HasLeast (P : Program) (p : List ℕ) : Type 0 where
+  pub x : Words
+  pub is : IsLeast P p x
+
+-- a string that some input takes has a least input
+abbrev pub LeastExists : Program → Type 0
+LeastExists P = (p : List ℕ) (y : Words) → IsInputOf P y → Takes P y p → HasLeast P p

@@ -4,6 +4,7 @@ ghost use Rattle.ms_machine.specs.Control.{Program};
 ghost use Rattle.ms_machine.specs.Laws.{
   IsWhole,
   LawOfTheString,
+  LeastExists,
   LeastIsFirst,
   LeastIsUnique,
   MarksAreRight,
@@ -50,4 +51,9 @@ pub fn least_is_first()
 /// A string has at most one least input.
 pub fn least_is_unique()
     ensures { (P : Program) → LeastIsUnique P }
+{}
+
+/// A string that some input takes has a least input.
+pub fn least_exists()
+    ensures { (P : Program) → LeastExists P }
 {}

@@ -11,6 +11,6 @@
 mod laws;
 
 pub use laws::{
-    inputs_share_shadows, least_is_first, least_is_unique, marks_are_right, shadows_need_no_input,
-    takes_where_literals_hold, words_are_values,
+    inputs_share_shadows, least_exists, least_is_first, least_is_unique, marks_are_right,
+    shadows_need_no_input, takes_where_literals_hold, words_are_values,
 };
