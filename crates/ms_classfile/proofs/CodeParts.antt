@@ -1,17 +1,17 @@
 -- What a Code attribute holds is spelled there, and what is spelled there is read.
 use Rattle.std.proofs.Common.{◌≡◌, ℕ, true, eqb, List, [], ◌++◌, length, Some, refl, sym, ap, subst, ◌∙◌, append_assoc, arith}
 use Rattle.std.specs.Prelude.{nat_le, ◌&&◌, ◌==◌}
-use Rattle.std.proofs.lemmas.Bool.{and_parts, leb-true, le-leb, eqb-true, eq-eqb}
-use Rattle.std.proofs.lemmas.List.{append-nil, nil_from_length}
+use Rattle.std.proofs.lemmas.Bool.{and_parts, leb-true, le-leb, eqb-true}
+use Rattle.std.proofs.lemmas.List.{append-nil}
 use Rattle.ms_pool.specs.Places.{Place, beginning}
 use Rattle.ms_pool.specs.Numbers.{IsBytes, width2, width4}
 use Rattle.ms_classfile.specs.declared.instruction.Instruction.{Instruction}
 use Rattle.ms_classfile.specs.declared.thin.parts.Limits.{Limits}
-use Rattle.ms_classfile.specs.Instructions.{is_walked}
+use Rattle.ms_classfile.specs.Instructions.{ends_with_return, is_walked}
 use Rattle.ms_classfile.specs.ThinFile.{Entry, Attribute, Code, u2, u4, code_bytes, spelled_attributes, spelled_code, IsThinCode}
 use Rattle.ms_classfile.specs.Reading.{provided, u2_at, u4_at, bytes_at, limits_at, attributes_at, rest_is_plain, instructions_of, code_of}
 use Rattle.ms_classfile.proofs.Steps.{then_some, provided_some, some_is}
-use Rattle.ms_classfile.proofs.Fields.{Takes, Takes-is, number_takes, number_reaches, run_takes, run_reaches}
+use Rattle.ms_classfile.proofs.Fields.{Takes, Takes-is, at_end, ends_there, number_takes, number_reaches, run_takes, run_reaches}
 use Rattle.ms_classfile.proofs.Attributes.{AreHeld, attributes_takes, attributes_reaches}
 use Rattle.ms_classfile.proofs.Instructions.{instructions_take, instructions_reach}
 
@@ -24,11 +24,6 @@ limits_takes start front place x takes found =
     let two = number_takes 2 width2 start (front ++ u2 stack.0) stack.1 locals one.0 at_locals in
     let made : Limits × Place = (record { max_stack = stack.0; max_locals = locals.0 }, locals.1) in
     subst (λ (y : Limits × Place). Takes start (front ++ u2 y.0.max_stack ++ u2 y.0.max_locals) y.1.left) (some_is made x last) two.0))
-
--- nothing is left
-pub ends_there : (start text : List ℕ) (place : Place) → Takes start text place.left → eqb (length place.left) 0 ≡ true → start ≡ text
-ends_there start text place takes e =
-    takes.parts ∙ ap (λ (rest : List ℕ). text ++ rest) (nil_from_length place.left (eqb-true _ _ e)) ∙ append-nil text
 
 rest_takes : (pool : List Entry) (start front : List ℕ) (place after : Place) → Takes start front place.left → rest_is_plain pool place ≡ Some after
     → (attributes : List Attribute) × (start ≡ front ++ u2 0 ++ spelled_attributes attributes) × AreHeld pool attributes
@@ -60,8 +55,9 @@ code_takes pool parameters content x fits found =
     then_some (rest_is_plain pool bytes.1) _ x more (λ rest at_rest more.
     then_some (instructions_of bytes.0) _ x more (λ code at_code last.
     let small = provided_some (nat_le size.0 19999) (bytes_at size.0 size.1) bytes at_bytes in
-    let good = provided_some (nat_le limits.0.max_stack 256 && nat_le limits.0.max_locals 256 && nat_le parameters limits.0.max_locals && is_walked parameters limits.0.max_stack 0 code) (Some (limits.0.max_stack, code)) x last in
-    let walked = and_parts (nat_le limits.0.max_stack 256 && nat_le limits.0.max_locals 256 && nat_le parameters limits.0.max_locals) (is_walked parameters limits.0.max_stack 0 code) good.0 in
+    let good = provided_some (nat_le limits.0.max_stack 256 && nat_le limits.0.max_locals 256 && nat_le parameters limits.0.max_locals && is_walked parameters limits.0.max_stack 0 code && ends_with_return code) (Some (limits.0.max_stack, code)) x last in
+    let returns = and_parts (nat_le limits.0.max_stack 256 && nat_le limits.0.max_locals 256 && nat_le parameters limits.0.max_locals && is_walked parameters limits.0.max_stack 0 code) (ends_with_return code) good.0 in
+    let walked = and_parts (nat_le limits.0.max_stack 256 && nat_le limits.0.max_locals 256 && nat_le parameters limits.0.max_locals) (is_walked parameters limits.0.max_stack 0 code) returns.0 in
     let room = and_parts (nat_le limits.0.max_stack 256 && nat_le limits.0.max_locals 256) (nat_le parameters limits.0.max_locals) walked.0 in
     let most = and_parts (nat_le limits.0.max_stack 256) (nat_le limits.0.max_locals 256) room.0 in
     let front : List ℕ = u2 limits.0.max_stack ++ u2 limits.0.max_locals in
@@ -74,7 +70,7 @@ code_takes pool parameters content x fits found =
     let made : Code = record { max_stack = limits.0.max_stack; max_locals = limits.0.max_locals; instructions = code; attributes = four.0 } in
     let whole : content ≡ spelled_code made =
     four.1 ∙ ap (λ (n : ℕ). front ++ u4 n ++ bytes.0 ++ u2 0 ++ spelled_attributes four.0) long
-    ∙ ap (λ (b : List ℕ). front ++ u4 (length b) ++ b ++ u2 0 ++ spelled_attributes four.0) decoded.text in
+    ∙ ap (λ (b : List ℕ). front ++ u4 (length b) ++ b ++ u2 0 ++ spelled_attributes four.0) decoded.0 in
     record {
       code = made;
       spelled = whole;
@@ -82,9 +78,10 @@ code_takes pool parameters content x fits found =
         stack = leb-true _ _ most.0;
         locals = leb-true _ _ most.1;
         room = leb-true _ _ room.1;
-        length = rw (← decoded.text, ← long) (leb-true _ _ small.0);
-        plain = decoded.plain;
+        length = rw (← decoded.0, ← long) (leb-true _ _ small.0);
+        plain = decoded.1;
         walked = walked.1;
+        returns = returns.1;
         attributes = four.2.fit;
         named = four.2.named;
       };
@@ -104,7 +101,7 @@ code_reaches pool parameters code thin =
     let size = number_reaches 4 (length text) locals.after (text ++ rest) (omega (arith, thin.length)) locals.left in
     let bytes = run_reaches text size.after rest size.left in
     let handlers = number_reaches 2 0 bytes.after (spelled_attributes code.attributes) (omega arith) bytes.left in
-    let attributes = attributes_reaches pool code.attributes handlers.after [] (record { fit = thin.attributes; named = thin.named }) (handlers.left ∙ sym (append-nil (spelled_attributes code.attributes))) in
-    let ended : eqb (length attributes.after.left) 0 ≡ true = eq-eqb _ _ (ap length attributes.left) in
+    let attributes = attributes_reaches pool code.attributes handlers.after [] (record { fit = thin.attributes; named = thin.named }) (subst (λ (left : List ℕ). handlers.after.left ≡ left) (sym (append-nil (spelled_attributes code.attributes))) handlers.left) in
+    let ended : eqb (length attributes.after.left) 0 ≡ true = at_end attributes.after attributes.left in
     let decoded = instructions_reach code.instructions thin.plain in
-    rw (stack.found, locals.found, size.found, le-leb _ _ thin.length, bytes.found, handlers.found, attributes.found, ended, decoded, le-leb _ _ thin.stack, le-leb _ _ thin.locals, le-leb _ _ thin.room, thin.walked) refl
+    rw (stack.found, locals.found, size.found, le-leb _ _ thin.length, bytes.found, handlers.found, attributes.found, ended, decoded, le-leb _ _ thin.stack, le-leb _ _ thin.locals, le-leb _ _ thin.room, thin.walked, thin.returns) refl

@@ -1,8 +1,9 @@
 -- A field that is read is the one that is spelled there, and what is spelled is read again.
-use Rattle.std.proofs.Common.{◌≡◌, ℕ, zero, suc, ◌^◌, ◌<◌, List, [], ◌∷◌, ◌++◌, length, take, drop, Option, Some, Result, Ok, Err, refl, sym, ap, subst, ◌∙◌, append_assoc, arith}
+use Rattle.std.proofs.Common.{◌≡◌, ℕ, zero, suc, true, eqb, ◌^◌, ◌<◌, List, [], ◌∷◌, ◌++◌, length, take, drop, Option, Some, Result, Ok, Err, refl, sym, ap, subst, ◌∙◌, append_assoc, arith}
 use Rattle.std.specs.List.{flat_map, AllByRecursion}
 use Rattle.std.specs.Result.{result_ok}
-use Rattle.std.proofs.lemmas.List.{append-nil, take-append-drop, length-take}
+use Rattle.std.proofs.lemmas.List.{append-nil, nil_from_length, take-append-drop, length-take}
+use Rattle.std.proofs.lemmas.Bool.{eqb-true, eq-eqb}
 use Rattle.ms_pool.specs.Places.{Place, behind, number_bytes, number_at, run_at}
 use Rattle.ms_pool.specs.Numbers.{IsBytes, IsBytes-drop, IsBytes-take, IsWidth, IsRead, number_is_read, run_is_read, number_again, run_again}
 use Rattle.ms_classfile.specs.Reading.{repeated, bytes_at}
@@ -15,6 +16,15 @@ pub record Takes (start text rest : List ℕ) : Type 0 where
 
 pub Takes-is : (start text text' rest : List ℕ) → text ≡ text' → Takes start text rest → Takes start text' rest
 Takes-is start text text' rest e takes = subst (λ (t : List ℕ). Takes start t rest) e takes
+
+-- nothing is left, by the test
+pub at_end : (place : Place) → place.left ≡ [] → eqb (length place.left) 0 ≡ true
+at_end place none = eq-eqb _ _ (ap length none)
+
+-- where nothing is left, the text is all
+pub ends_there : (start text : List ℕ) (place : Place) → Takes start text place.left → eqb (length place.left) 0 ≡ true → start ≡ text
+ends_there start text place takes e =
+    takes.parts ∙ ap (λ (rest : List ℕ). text ++ rest) (nil_from_length place.left (eqb-true _ _ e)) ∙ append-nil text
 
 -- x is read, and this is left
 pub record Reaches {X : Type 0} (read : Option (X × Place)) (x : X) (rest : List ℕ) : Type 0 where

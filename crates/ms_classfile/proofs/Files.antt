@@ -1,21 +1,20 @@
 -- The thin file that is read is spelled by the bytes, and one that is spelled is read.
 use Rattle.std.proofs.Common.{◌≡◌, ℕ, ◌^◌, ◌<◌, ◌≤◌, true, eqb, List, [], ◌++◌, length, Option, Some, None, refl, sym, ap, subst, ◌∙◌, append_assoc, arith, codes, inl, inr, All}
-use Rattle.std.specs.Prelude.{IsTrue, IsSomeAnd, is_none, nat_le, ◌&&◌, ◌==◌}
+use Rattle.std.specs.Prelude.{IsSomeAnd, is_none, nat_le, ◌&&◌, ◌==◌}
 use Rattle.std.specs.Str.{bytes_eq}
-use Rattle.std.proofs.lemmas.Bool.{cases_lt, and_parts, leb-true, le-leb, eqb-true, eq-eqb}
+use Rattle.std.proofs.lemmas.Bool.{cases_lt, and_parts, leb-true, le-leb, eqb-true}
 use Rattle.std.proofs.lemmas.List.{append-nil, get_or_past}
 use Rattle.std.proofs.lemmas.Slice.Eq.{bytes_eq-Decides}
 use Rattle.ms_words.specs.Throwables.{thrown_named}
 use Rattle.ms_pool.specs.Places.{Place, beginning}
 use Rattle.ms_pool.specs.Numbers.{IsBytes, width2, width4}
-use Rattle.ms_classfile.specs.Instructions.{is_walked}
-use Rattle.ms_classfile.specs.ThinFile.{Entry, ThinFile, Method, IsThinClass, HasThinMethod, IsThinFile, u2, u4, magic, class_name, spelled_pool, spelled_attributes, spelled_file}
+use Rattle.ms_classfile.specs.ThinFile.{Entry, ThinFile, Method, IsThinClass, HasThinMethod, IsThinFile, IsThinMethod, u2, u4, magic, class_name, spelled_pool, spelled_attributes, spelled_file}
 use Rattle.ms_classfile.specs.Reading.{provided, u2_at, u4_at, is_ordinary, header_at, pool_at, class_part_at, counts_at, method_at, attributes_at, thin_method}
 use Rattle.ms_classfile.proofs.Steps.{then_some, provided_some, some_is}
-use Rattle.ms_classfile.proofs.Fields.{Takes, Takes-is, number_takes, number_reaches}
+use Rattle.ms_classfile.proofs.Fields.{Takes, Takes-is, at_end, ends_there, number_takes, number_reaches}
 use Rattle.ms_classfile.proofs.Pool.{pool_takes, pool_reaches}
 use Rattle.ms_classfile.proofs.Attributes.{attributes_takes, attributes_reaches}
-use Rattle.ms_classfile.proofs.CodeParts.{ends_there}
+use Rattle.ms_classfile.proofs.Instructions.{length_spelled}
 use Rattle.ms_classfile.proofs.MethodParts.{method_takes, method_reaches}
 
 -- ---- magic and version
@@ -203,7 +202,7 @@ file_reaches bytes method thin =
     let counts = counts_reach parent.0 methods parent.2 in
     let read = method_reaches file method counts.0 last thin.has_method counts.2 in
     let attributes = attributes_reaches file.pool file.attributes read.after [] (record { fit = class.attributes; named = class.named }) read.left in
-    let ended : eqb (length attributes.after.left) 0 ≡ true = eq-eqb _ _ (ap length attributes.left) in
+    let ended : eqb (length attributes.after.left) 0 ≡ true = at_end attributes.after attributes.left in
     rw (start.1, pool.found, parent.1, counts.1, read.found, attributes.found, ended) refl
 
 pub bytes_from_all : (bytes : List ℕ) → All (λ byte. byte < 256) bytes → IsBytes bytes
@@ -221,20 +220,19 @@ one_method bytes first second is_first is_second = some_is first second (sym (fi
 pub none_thin : (bytes : List ℕ) → thin_method bytes ≡ None → (method : Method) → ¬ IsThinFile bytes method
 none_thin bytes none method thin = let read = file_reaches bytes method thin in cc
 
--- what a reader may count on
-pub record IsReady (method : Method) : Type 0 where
-  pub walked : IsTrue (is_walked method.parameters method.max_stack 0 method.instructions)
-  pub low : method.max_stack ≤ 256
-  pub few : method.parameters ≤ 4
-
-ready : (file : ThinFile) (method : Method) → HasThinMethod file method → IsReady method
-ready file method has = record {
+-- what holds of the method of a thin file
+thin_method_is : (file : ThinFile) (method : Method) → HasThinMethod file method → IsThinMethod method
+thin_method_is file method has = record {
   walked = rw (← has.stack, ← has.instructions) has.thin.walked;
-  low = rw (← has.stack) has.thin.stack;
-  few = has.parameters;
+  returns = rw (← has.instructions) has.thin.returns;
+  short = rw (← has.instructions) (omega (arith, has.thin.length, length_spelled file.code.instructions));
+  stack = rw (← has.stack) has.thin.stack;
+  parameters = has.parameters;
+  kinds = has.kinds;
+  result = has.result;
 }
 
-pub method_ready : (bytes : List ℕ) (method : Method) → IsBytes bytes → thin_method bytes ≡ Some method → IsReady method
-method_ready bytes method fits found =
+pub method_is_thin : (bytes : List ℕ) (method : Method) → IsBytes bytes → thin_method bytes ≡ Some method → IsThinMethod method
+method_is_thin bytes method fits found =
     let thin = file_takes bytes method fits found in
-    ready thin.file method thin.has_method
+    thin_method_is thin.file method thin.has_method

@@ -1,48 +1,19 @@
 -- The method that is read is spelled there, and one that is spelled is read.
-use Rattle.std.proofs.Common.{◌≡◌, ℕ, zero, suc, ◌≤◌, Bool, true, List, [], ◌∷◌, ◌++◌, map, filter, Some, refl, sym, ap, subst, ◌∙◌, arith, inl, inr, codes}
-use Rattle.std.specs.Prelude.{find}
-use Rattle.std.specs.Str.{bytes_eq}
+use Rattle.std.proofs.Common.{◌≡◌, ℕ, Bool, List, [], ◌∷◌, ◌++◌, length, map, filter, Some, refl, ap, subst, ◌∙◌, codes}
 use Rattle.std.specs.List.{AllByRecursion}
 use Rattle.std.proofs.lemmas.Bool.{cond_both}
-use Rattle.std.proofs.lemmas.Slice.Eq.{bytes_eq-Decides}
 use Rattle.ms_pool.specs.Places.{Place}
 use Rattle.ms_pool.specs.Numbers.{width2}
-use Rattle.ms_classfile.specs.ThinFile.{Entry, Attribute, Code, ThinFile, Method, HasThinMethod, u2, utf8, is_named, int_descriptor, is_plain_static, spelled_attributes, spelled_code}
-use Rattle.ms_classfile.specs.Reading.{provided, only, parameters_of, u2_at, attributes_at, code_of, method_at}
-use Rattle.ms_classfile.proofs.Steps.{then_some, provided_some, some_is, either}
+use Rattle.ms_classfile.specs.ThinFile.{Entry, Attribute, Code, ThinFile, Method, HasThinMethod, u2, utf8, is_named, is_plain_static, spelled_attributes, spelled_code}
+use Rattle.ms_classfile.specs.Reading.{provided, only, signature_of, u2_at, attributes_at, code_of, method_at}
+use Rattle.ms_classfile.proofs.Steps.{then_some, provided_some, some_is}
+use Rattle.ms_classfile.proofs.Only.{only_is}
+use Rattle.ms_classfile.proofs.Signatures.{signature_is, signature_reaches}
 use Rattle.ms_classfile.proofs.Fields.{Takes, Reaches, number_takes, number_reaches}
 use Rattle.ms_classfile.proofs.Attributes.{IsFound, attributes_takes, attributes_reaches}
 use Rattle.ms_classfile.proofs.CodeParts.{code_takes, code_reaches}
 
--- ---- the descriptor
-
-find_passes : {X : Type 0} (test : X → Bool) (Q : X → Type 0) (xs : List X) (x : X) → AllByRecursion Q xs → find test xs ≡ Some x → (test x ≡ true) × Q x
-find_passes test Q [] x each found = absurd cc
-find_passes {X = X} test Q (y ∷ ys) x each found =
-    elim (either (test y) (Some y) (find test ys) (Some x) found) [
-      | inl p ↦ subst (λ (z : X). (test z ≡ true) × Q z) (some_is y x p.1) (p.0, each.0)
-      | inr p ↦ find_passes test Q ys x each.1 p.1
-    ]
-
-parameters_are : (text : List ℕ) (n : ℕ) → parameters_of text ≡ Some n → (text ≡ int_descriptor n) × (n ≤ 4)
-parameters_are text n found =
-    let passes = find_passes (λ k. bytes_eq (int_descriptor k) text) (λ k. k ≤ 4) (0 ∷ 1 ∷ 2 ∷ 3 ∷ 4 ∷ []) n (omega arith, (omega arith, (omega arith, (omega arith, (omega arith, tt))))) found in
-    (sym ((bytes_eq-Decides (int_descriptor n) text).0 passes.0), passes.1)
-
-parameters_reach : (n : ℕ) → n ≤ 4 → parameters_of (int_descriptor n) ≡ Some n
-parameters_reach zero few = refl
-parameters_reach (suc zero) few = refl
-parameters_reach (suc (suc zero)) few = refl
-parameters_reach (suc (suc (suc zero))) few = refl
-parameters_reach (suc (suc (suc (suc zero)))) few = refl
-parameters_reach (suc (suc (suc (suc (suc n))))) few = absurd (omega arith)
-
 -- ---- the one attribute that is named Code
-
-only_is : {X : Type 0} (xs : List X) (x : X) → only xs ≡ Some x → xs ≡ x ∷ []
-only_is [] x found = absurd cc
-only_is {X = X} (y ∷ []) x found = ap (λ (z : X). z ∷ []) (some_is y x found)
-only_is (y ∷ z ∷ more) x found = absurd cc
 
 each_kept : {X : Type 0} (test : X → Bool) (P : X → Type 0) (xs : List X) → AllByRecursion P xs → AllByRecursion P (filter test xs)
 each_kept test P [] each = tt
@@ -80,19 +51,19 @@ method_takes pool start front place x takes found =
     then_some (provided (is_plain_static access.0) (attributes_at pool descriptor.1)) _ x more (λ attributes at_attributes more.
     then_some (utf8 pool number.0) _ x more (λ name at_name more.
     then_some (utf8 pool descriptor.0) _ x more (λ text at_text more.
-    then_some (parameters_of text) _ x more (λ parameters at_parameters more.
+    then_some (signature_of text) _ x more (λ signature at_signature more.
     then_some (only (filter (is_named pool (codes "Code")) attributes.0)) _ x more (λ attribute at_attribute more.
-    then_some (code_of pool parameters attribute.content) _ x more (λ code at_code last.
+    then_some (code_of pool (length signature.0) attribute.content) _ x more (λ code at_code last.
     let static = provided_some (is_plain_static access.0) (attributes_at pool descriptor.1) attributes at_attributes in
     let one = number_takes 2 width2 start front place access takes at_access in
     let two = number_takes 2 width2 start (front ++ u2 access.0) access.1 number one.0 at_number in
     let three = number_takes 2 width2 start (front ++ u2 access.0 ++ u2 number.0) number.1 descriptor two.0 at_descriptor in
     let four = attributes_takes pool start (front ++ u2 access.0 ++ u2 number.0 ++ u2 descriptor.0) descriptor.1 attributes three.0 static.1 in
-    let kinds = parameters_are text parameters at_parameters in
+    let of_kinds = signature_is text signature at_signature in
     let named = only_is (filter (is_named pool (codes "Code")) attributes.0) attribute at_attribute in
     let kept : AllByRecursion (IsFound pool) (attribute ∷ []) = subst (λ (xs : List Attribute). AllByRecursion (IsFound pool) xs) named (each_kept (is_named pool (codes "Code")) (IsFound pool) attributes.0 four.1.1) in
-    let holds = code_takes pool parameters attribute.content code kept.0.bytes at_code in
-    let made : Method × Place = (record { name = name; descriptor = text; parameters = parameters; max_stack = code.0; instructions = code.1 }, attributes.1) in
+    let holds = code_takes pool (length signature.0) attribute.content code kept.0.bytes at_code in
+    let made : Method × Place = (record { name = name; descriptor = text; kinds = signature.0; result = signature.1; max_stack = code.0; instructions = code.1 }, attributes.1) in
     let one_code : map (λ (attribute : Attribute). attribute.content) (filter (is_named pool (codes "Code")) attributes.0) ≡ spelled_code holds.code ∷ [] = ap (λ (xs : List Attribute). map (λ attribute. attribute.content) xs) named ∙ ap (λ (c : List ℕ). c ∷ []) holds.spelled in
     subst (λ (y : Method × Place). TakesMethod pool start front y) (some_is made x last) (record {
       access = access.0;
@@ -108,8 +79,10 @@ method_takes pool start front place x takes found =
         static = static.0;
         name = at_name;
         descriptor = at_text;
-        kinds = kinds.0;
-        parameters = kinds.1;
+        signature = of_kinds.spelled;
+        parameters = of_kinds.few;
+        kinds = of_kinds.thin;
+        result = of_kinds.result;
         attributes = four.1.0.fit;
         named = four.1.0.named;
         code = one_code;
@@ -128,11 +101,11 @@ method_reaches file method place rest has spelled =
     let descriptor = number_reaches 2 file.method_descriptor number.after (spelled_attributes file.method_attributes ++ rest) has.descriptor_number number.left in
     let attributes = attributes_reaches file.pool file.method_attributes descriptor.after rest (record { fit = has.attributes; named = has.named }) descriptor.left in
     let one = only_reaches (filter (is_named file.pool (codes "Code")) file.method_attributes) (spelled_code file.code) has.code in
-    let parameters : parameters_of method.descriptor ≡ Some method.parameters = ap parameters_of has.kinds ∙ parameters_reach method.parameters has.parameters in
-    let code : code_of file.pool method.parameters one.attribute.content ≡ Some (method.max_stack, method.instructions) =
-    ap (code_of file.pool method.parameters) one.holds ∙ code_reaches file.pool method.parameters file.code has.thin ∙ rw (has.stack, has.instructions) refl in
+    let signature : signature_of method.descriptor ≡ Some (method.kinds, method.result) = ap signature_of has.signature ∙ signature_reaches method.kinds method.result has.parameters has.kinds has.result in
+    let code : code_of file.pool (length method.kinds) one.attribute.content ≡ Some (method.max_stack, method.instructions) =
+    ap (code_of file.pool (length method.kinds)) one.holds ∙ code_reaches file.pool (length method.kinds) file.code has.thin ∙ rw (has.stack, has.instructions) refl in
     record {
       after = attributes.after;
-      found = rw (access.found, number.found, descriptor.found, has.static, attributes.found, has.name, has.descriptor, parameters, one.found, code) refl;
+      found = rw (access.found, number.found, descriptor.found, has.static, attributes.found, has.name, has.descriptor, signature, one.found, code) refl;
       left = attributes.left;
     }

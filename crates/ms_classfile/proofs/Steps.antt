@@ -13,7 +13,7 @@ pub provided_some : {A : Type 0} (test : Bool) (read : Option A) (y : A) → pro
 provided_some true read y found = (refl, found)
 provided_some false read y found = absurd cc
 
-abbrev some : {A : Type 0} → A → Option A
+abbrev pub some : {A : Type 0} → A → Option A
 some x = Some x
 
 pub some_is : {A : Type 0} (x y : A) → some x ≡ some y → x ≡ y

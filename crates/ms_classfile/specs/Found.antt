@@ -1,8 +1,6 @@
 -- What the readers of a thin file return, seen as the parts of a file, and that it is what the
--- definitions of `Reading` give. But for `view`, these words are for private functions.
-use Rattle.std.specs.Prelude.{◌≡◌, ℕ, List, [], ◌∷◌, ◌==◌, if◌then◌else◌, Option, Some, None, Result, Ok, Err}
-use Rattle.std.specs.Option.{option_map}
-use Rattle.std.specs.Int.{w8, cast_signed}
+-- definitions of `Reading` give. But for `view`, these definitions are for private functions.
+use Rattle.std.specs.Prelude.{◌≡◌, Option, Some, None, Result, Ok, Err}
 use Rattle.ms_pool.specs.Places.{Place}
 use Rattle.ms_classfile.specs.declared.thin.failure.Failure.{Failure}
 use Rattle.ms_classfile.specs.declared.thin.failure.Failure.TheVariants as failures
@@ -11,9 +9,6 @@ use Rattle.ms_classfile.specs.declared.thin.parts.PoolEntry.{PoolEntry}
 use Rattle.ms_classfile.specs.declared.thin.parts.PoolEntry.TheVariants as entries
 use Rattle.ms_classfile.specs.declared.thin.parts.RawAttribute.{RawAttribute}
 use Rattle.ms_classfile.specs.declared.thin.parts.ThinMethod.{ThinMethod}
-use Rattle.ms_classfile.specs.declared.instruction.Instruction.{Instruction}
-use Rattle.ms_classfile.specs.declared.instruction.Instruction.TheVariants.{Bipush}
-use Rattle.ms_classfile.specs.Reading.{short_instruction}
 use Rattle.ms_classfile.specs.ThinFile.{Entry, Utf8, Class, Attribute, Method}
 
 -- an entry, an attribute, a method, without where their bytes lie in memory
@@ -25,7 +20,7 @@ abbrev pub attribute_view : RawAttribute → Attribute
 attribute_view attribute = record { name = attribute.name; content = attribute.content.now }
 
 abbrev pub view : ThinMethod → Method
-view method = record { name = method.name.now; descriptor = method.descriptor.now; parameters = method.parameters; max_stack = method.max_stack; instructions = method.instructions.items }
+view method = record { name = method.name.now; descriptor = method.descriptor.now; kinds = method.kinds; result = method.result; max_stack = method.max_stack; instructions = method.instructions.items }
 
 -- nothing is read, unless memory ran out
 abbrev pub Fails : {Y : Type 0} → Failure → Option Y → Type 0
@@ -51,12 +46,3 @@ Finds seen (Err refused) place read = read ≡ None
 abbrev pub LeadsBehind : Result Unit Refused → Place → Option Place → Type 0
 LeadsBehind (Ok x) place read = read ≡ Some place
 LeadsBehind (Err refused) place read = read ≡ None
-
--- the first instruction of these bytes, and the bytes after it
-abbrev pub first_instruction : List ℕ → Option (Instruction × List ℕ)
-first_instruction [] = None
-first_instruction (byte ∷ []) = option_map (λ instruction. (instruction, [])) (short_instruction byte)
-first_instruction (byte ∷ next ∷ bytes) =
-    if byte == 16
-    then Some (Bipush (cast_signed w8 next), bytes)
-    else option_map (λ instruction. (instruction, next ∷ bytes)) (short_instruction byte)

@@ -1,6 +1,6 @@
 -- How a thin file is read, part by part, from left to right. That what is read is what `ThinFile`
 -- says is a law, `thin_files_are_read`.
-use Rattle.std.specs.Prelude.{ℕ, zero, suc, ◌-◌, List, [], ◌∷◌, length, Bool, true, false, ◌&&◌, ◌==◌, nat_lt, nat_le, if◌then◌else◌, Option, Some, None, is_some, is_none, filter, find, codes, pos, ◌-ℤ◌}
+use Rattle.std.specs.Prelude.{ℕ, zero, suc, ◌-◌, ◌^◌, List, [], ◌∷◌, length, Bool, true, false, ◌&&◌, ◌==◌, nat_lt, nat_le, if◌then◌else◌, Option, Some, None, is_some, is_none, slice_get, filter, codes, pos, ◌-ℤ◌}
 use Rattle.std.specs.Option.{option_map}
 use Rattle.std.specs.Result.{result_ok}
 use Rattle.std.specs.List.{list_all}
@@ -8,11 +8,15 @@ use Rattle.std.specs.Str.{bytes_eq}
 use Rattle.std.specs.Int.{w8, cast_signed}
 use Rattle.ms_words.specs.Throwables.{thrown_named}
 use Rattle.ms_pool.specs.Places.{Place, beginning, number_at, run_at}
+use Rattle.ms_words.specs.declared.kind.Kind.{Kind}
+use Rattle.ms_words.specs.declared.kind.Kind.TheVariants.{Z, I}
+use Rattle.ms_classfile.specs.declared.instruction.Condition.{Condition}
+use Rattle.ms_classfile.specs.declared.instruction.Condition.TheVariants.{Eq, Ne, Lt, Ge, Gt, Le}
 use Rattle.ms_classfile.specs.declared.instruction.Instruction.{Instruction}
-use Rattle.ms_classfile.specs.declared.instruction.Instruction.TheVariants.{Iload, Iconst, Bipush, Iadd, Isub, Ireturn}
+use Rattle.ms_classfile.specs.declared.instruction.Instruction.TheVariants.{IloadN, Iload, Iconst, Bipush, Iadd, Isub, If, IfIcmp, Ireturn}
 use Rattle.ms_classfile.specs.declared.thin.parts.Limits.{Limits}
-use Rattle.ms_classfile.specs.Instructions.{is_walked}
-use Rattle.ms_classfile.specs.ThinFile.{Entry, Utf8, Class, Attribute, Method, utf8, class_name, is_linked, is_named, int_descriptor, is_plain_static, magic}
+use Rattle.ms_classfile.specs.Instructions.{ends_with_return, is_walked}
+use Rattle.ms_classfile.specs.ThinFile.{Entry, Utf8, Class, Attribute, Method, utf8, class_name, is_linked, is_named, is_plain_static, magic}
 
 infixl 10 ◌>>=◌
 -- a read, and what is read after it
@@ -86,24 +90,69 @@ attributes_at pool place = do
 
 -- CODE
 
--- the instruction that a byte is alone
+-- the instruction that has this opcode and no operand
 abbrev pub short_instruction : ℕ → Option Instruction
-short_instruction byte =
-    if nat_le 26 byte && nat_le byte 29 then Some (Iload (byte - 26))
-    else (if nat_le 2 byte && nat_le byte 8 then Some (Iconst (pos byte -ℤ pos 3))
-    else (if byte == 96 then Some Iadd
-    else (if byte == 100 then Some Isub
-    else (if byte == 172 then Some Ireturn
+short_instruction opcode =
+    if nat_le 26 opcode && nat_le opcode 29 then Some (IloadN (opcode - 26))
+    else (if nat_le 2 opcode && nat_le opcode 8 then Some (Iconst (pos opcode -ℤ pos 3))
+    else (if opcode == 96 then Some Iadd
+    else (if opcode == 100 then Some Isub
+    else (if opcode == 172 then Some Ireturn
     else None))))
 
--- the instructions that these bytes are, one after another
-unfoldable pub instructions_of : List ℕ → Option (List Instruction)
-instructions_of [] = Some []
-instructions_of (byte ∷ []) = option_map (λ instruction. instruction ∷ []) (short_instruction byte)
-instructions_of (byte ∷ next ∷ bytes) =
-    if byte == 16
-    then option_map (λ code. Bipush (cast_signed w8 next) ∷ code) (instructions_of bytes)
-    else (short_instruction byte >>= λ instruction. option_map (λ code. instruction ∷ code) (instructions_of (next ∷ bytes)))
+-- the condition of this place in its group of opcodes
+abbrev pub condition_of : ℕ → Option Condition
+condition_of number = slice_get (Eq ∷ Ne ∷ Lt ∷ Ge ∷ Gt ∷ Le ∷ []) number
+
+-- a load, behind its opcode
+unfoldable pub load_at : Place → Option (Instruction × Place)
+load_at place = do
+  local ← u1_at place
+  Some (Iload local.0, local.1)
+
+-- a push, behind its opcode
+unfoldable pub push_at : Place → Option (Instruction × Place)
+push_at place = do
+  byte ← u1_at place
+  Some (Bipush (cast_signed w8 byte.0), byte.1)
+
+-- how far a branch leads, behind its opcode
+unfoldable pub offset_at : Place → Option (ℕ × Place)
+offset_at place = do
+  far ← u2_at place
+  provided (nat_lt far.0 (2 ^ 15)) (Some far)
+
+-- a branch with this condition, behind its opcode
+unfoldable pub branch_at : (Condition → ℕ → Instruction) → ℕ → Place → Option (Instruction × Place)
+branch_at branch number place = do
+  condition ← condition_of number
+  far ← offset_at place
+  Some (branch condition far.0, far.1)
+
+-- the instruction that has this opcode, behind it
+unfoldable pub operand_at : ℕ → Place → Option (Instruction × Place)
+operand_at opcode place =
+    if opcode == 16 then push_at place
+    else (if opcode == 21 then load_at place
+    else (if nat_le 153 opcode && nat_le opcode 158 then branch_at If (opcode - 153) place
+    else (if nat_le 159 opcode && nat_le opcode 164 then branch_at IfIcmp (opcode - 159) place
+    else option_map (λ instruction. (instruction, place)) (short_instruction opcode))))
+
+unfoldable pub instruction_at : Place → Option (Instruction × Place)
+instruction_at place = do
+  opcode ← u1_at place
+  operand_at opcode.0 opcode.1
+
+-- instructions one after another up to the end of the bytes, at most so many
+unfoldable pub instructions_at : ℕ → Place → Option (List Instruction)
+instructions_at zero place = provided (length place.left == 0) (Some [])
+instructions_at (suc most) place =
+    if length place.left == 0 then Some []
+    else (instruction_at place >>= λ first. option_map (λ code. first.0 ∷ code) (instructions_at most first.1))
+
+-- the instructions that these bytes are; there are no more of them than bytes
+abbrev pub instructions_of : List ℕ → Option (List Instruction)
+instructions_of bytes = instructions_at (length bytes) (beginning bytes)
 
 -- the limits of a method's code
 unfoldable pub limits_at : Place → Option (Limits × Place)
@@ -129,7 +178,7 @@ code_of pool parameters content = do
   rest ← rest_is_plain pool bytes.1
   code ← instructions_of bytes.0
   let fits = nat_le limits.0.max_stack 256 && nat_le limits.0.max_locals 256 && nat_le parameters limits.0.max_locals in
-      provided (fits && is_walked parameters limits.0.max_stack 0 code) (Some (limits.0.max_stack, code))
+      provided (fits && is_walked parameters limits.0.max_stack 0 code && ends_with_return code) (Some (limits.0.max_stack, code))
 
 -- THE METHOD AND THE FILE
 
@@ -139,9 +188,27 @@ only [] = None
 only (x ∷ []) = Some x
 only (x ∷ y ∷ more) = None
 
--- the number of ints that a descriptor takes, at most four, where it gives an int
-abbrev pub parameters_of : List ℕ → Option ℕ
-parameters_of text = find (λ n. bytes_eq (int_descriptor n) text) (0 ∷ 1 ∷ 2 ∷ 3 ∷ 4 ∷ [])
+-- the kind that a letter stands for, of those that thin methods have
+abbrev pub kind_of : ℕ → Option Kind
+kind_of byte = if byte == 90 then Some Z else (if byte == 73 then Some I else None)
+
+-- the kinds of the parameters, at most `most`, and what stands behind the closing parenthesis
+abbrev pub parameters_of : ℕ → List ℕ → Option (List Kind × List ℕ)
+parameters_of most [] = None
+parameters_of zero (byte ∷ text) = provided (byte == 41) (Some ([], text))
+parameters_of (suc most) (byte ∷ text) =
+    if byte == 41 then Some ([], text)
+    else (kind_of byte >>= λ kind. option_map (λ rest. (kind ∷ rest.0, rest.1)) (parameters_of most text))
+
+-- the kind of the result
+abbrev pub result_of : List ℕ → Option Kind
+result_of text = only text >>= kind_of
+
+-- the kinds of the parameters, at most eight, and of the result that a descriptor states
+abbrev pub signature_of : List ℕ → Option (List Kind × Kind)
+signature_of [] = None
+signature_of (byte ∷ text) =
+    provided (byte == 40) (parameters_of 8 text) >>= λ parameters. option_map (λ result. (parameters.0, result)) (result_of parameters.1)
 
 unfoldable pub method_at : List Entry → Place → Option (Method × Place)
 method_at pool place = do
@@ -151,10 +218,10 @@ method_at pool place = do
   attributes ← provided (is_plain_static access.0) (attributes_at pool descriptor_number.1)
   name ← utf8 pool name_number.0
   text ← utf8 pool descriptor_number.0
-  parameters ← parameters_of text
+  signature ← signature_of text
   attribute ← only (filter (is_named pool (codes "Code")) attributes.0)
-  code ← code_of pool parameters attribute.content
-  Some (record { name = name; descriptor = text; parameters = parameters; max_stack = code.0; instructions = code.1 }, attributes.1)
+  code ← code_of pool (length signature.0) attribute.content
+  Some (record { name = name; descriptor = text; kinds = signature.0; result = signature.1; max_stack = code.0; instructions = code.1 }, attributes.1)
 
 -- magic and version
 unfoldable pub header_at : Place → Option Place

@@ -1,12 +1,15 @@
--- Thin files: class files of one class with one static method over ints, whose code has no branch
--- (JVMS SE 8, chapter 4).
-use Rattle.std.specs.Prelude.{◌≡◌, ℕ, ◌+◌, ◌-◌, ◌^◌, ◌<◌, ◌≤◌, List, [], ◌∷◌, ◌++◌, length, Bool, true, false, IsTrue, ◌==◌, if◌then◌else◌, Option, Some, None, is_some, IsSomeAnd, map, slice_get, filter, replicate, codes, bit_and}
+-- Thin files: class files of one class with one static method over ints and booleans, whose code
+-- computes, branches ahead and returns (JVMS SE 8, chapter 4). The spelling of names, the encoding of texts,
+-- other flags than those named here, and StackMapTable are not checked.
+use Rattle.std.specs.Prelude.{◌≡◌, ℕ, ◌+◌, ◌-◌, ◌^◌, ◌<◌, ◌≤◌, List, [], ◌∷◌, ◌++◌, length, Bool, true, false, IsTrue, ◌==◌, if◌then◌else◌, Option, Some, None, is_some, IsSomeAnd, map, slice_get, filter, codes, bit_and}
 use Rattle.std.specs.Option.{option_and_then}
 use Rattle.std.specs.List.{list_all, flat_map, AllByRecursion}
 use Rattle.std.specs.Str.{bytes_eq}
+use Rattle.ms_words.specs.declared.kind.Kind.{Kind}
+use Rattle.ms_words.specs.declared.kind.Kind.TheVariants.{Z, B, C, S, I}
 use Rattle.ms_words.specs.Throwables.{thrown_named}
 use Rattle.ms_classfile.specs.declared.instruction.Instruction.{Instruction}
-use Rattle.ms_classfile.specs.Instructions.{IsPlain, is_walked, spelled_instruction}
+use Rattle.ms_classfile.specs.Instructions.{IsPlain, ends_with_return, is_walked, spelled_instruction}
 use Rattle.ms_pool.specs.Places.{number_bytes}
 
 -- THE PARTS OF A FILE
@@ -129,15 +132,32 @@ is_named pool name attribute = is_text name (utf8 pool attribute.name)
 
 -- THE RULES
 
--- the descriptor of a method with so many int parameters and an int result
-abbrev pub int_descriptor : ℕ → List ℕ
-int_descriptor parameters = codes "(" ++ replicate parameters 73 ++ codes ")I"
+-- the letter of a kind in a descriptor (JVMS SE 8, table 4.3-A)
+abbrev pub letter : Kind → ℕ
+letter Z = 90
+letter B = 66
+letter C = 67
+letter S = 83
+letter I = 73
+
+-- whether thin methods have parameters and results of the kind: it is boolean or int
+abbrev pub is_thin_kind : Kind → Bool
+is_thin_kind Z = true
+is_thin_kind B = false
+is_thin_kind C = false
+is_thin_kind S = false
+is_thin_kind I = true
+
+-- the descriptor of a method with parameters of these kinds and a result of this one (JVMS SE 8,
+-- section 4.3.3)
+abbrev pub descriptor_of : List Kind → Kind → List ℕ
+descriptor_of kinds result = codes "(" ++ map letter kinds ++ codes ")" ++ letter result ∷ []
 
 -- of the flags static, synchronized, native and abstract, static alone is set (JVMS SE 8, table 4.6-A)
 abbrev pub is_plain_static : ℕ → Bool
 is_plain_static access = bit_and access 0x0528 == 0x0008
 
--- what has a spelling: each number fits the bytes that it has
+-- what can be written: each number fits its field
 pub record AttributeFits (attribute : Attribute) : Type 0 where
   pub name : attribute.name < 2 ^ 16
   pub content : length attribute.content < 2 ^ 32
@@ -150,18 +170,20 @@ abbrev pub EntryFits : Entry → Type 0
 EntryFits (Utf8 text) = length text < 2 ^ 16
 EntryFits (Class name) = name < 2 ^ 16
 
--- What is said of a thin method: its name, its descriptor, the number of its parameters, the most words
--- that its stack may have by the file's declaration (max_stack; JVMS SE 8, section 4.7.3), its instructions.
+-- What is said of a thin method: its name, its descriptor, the kinds of its parameters and of its result,
+-- the most words that its stack may have by the file's declaration (max_stack; JVMS SE 8, section 4.7.3),
+-- its instructions.
 pub record Method : Type 0 where
   pub name : List ℕ
   pub descriptor : List ℕ
-  pub parameters : ℕ
+  pub kinds : List Kind
+  pub result : Kind
   pub max_stack : ℕ
   pub instructions : List Instruction
 
 -- The code of a method with so many parameters: what its Code attribute states is small enough, and its
 -- instructions meet the constraints on code (JVMS SE 8, section 4.7.3 for the attribute, section 4.9 for
--- the constraints).
+-- the constraints) and the narrower limits of thin code.
 pub record IsThinCode (pool : List Entry) (parameters : ℕ) (code : Code) : Type 0 where
   pub stack : code.max_stack ≤ 256
   pub locals : code.max_locals ≤ 256
@@ -169,10 +191,12 @@ pub record IsThinCode (pool : List Entry) (parameters : ℕ) (code : Code) : Typ
   pub length : length (code_bytes code) ≤ 19999
   pub plain : AllByRecursion IsPlain code.instructions
   pub walked : IsTrue (is_walked parameters code.max_stack 0 code.instructions)
+  pub returns : IsTrue (ends_with_return code.instructions)
   pub attributes : AttributesFit code.attributes
   pub named : IsTrue (list_all (has_name pool) code.attributes)
 
--- a class whose name is none of the throwables' tree, below java/lang/Object
+-- what holds of the file outside its method: each number fits its field, the version is one of those that
+-- are read, the class's superclass is java/lang/Object, and no throwable has its name
 pub record IsThinClass (file : ThinFile) : Type 0 where
   pub minor : file.minor < 2 ^ 16
   pub oldest : 45 ≤ file.major
@@ -188,7 +212,7 @@ pub record IsThinClass (file : ThinFile) : Type 0 where
   pub attributes : AttributesFit file.attributes
   pub named : IsTrue (list_all (has_name file.pool) file.attributes)
 
--- the file's method is this one
+-- the file's method is thin, and is this one
 pub record HasThinMethod (file : ThinFile) (method : Method) : Type 0 where
   pub access : file.method_access < 2 ^ 16
   pub name_number : file.method_name < 2 ^ 16
@@ -196,13 +220,15 @@ pub record HasThinMethod (file : ThinFile) (method : Method) : Type 0 where
   pub static : IsTrue (is_plain_static file.method_access)
   pub name : utf8 file.pool file.method_name ≡ Some method.name
   pub descriptor : utf8 file.pool file.method_descriptor ≡ Some method.descriptor
-  pub kinds : method.descriptor ≡ int_descriptor method.parameters
-  pub parameters : method.parameters ≤ 4
+  pub signature : method.descriptor ≡ descriptor_of method.kinds method.result
+  pub parameters : length method.kinds ≤ 8
+  pub kinds : IsTrue (list_all is_thin_kind method.kinds)
+  pub result : IsTrue (is_thin_kind method.result)
   pub attributes : AttributesFit file.method_attributes
   pub named : IsTrue (list_all (has_name file.pool) file.method_attributes)
   -- one attribute is named Code, and holds the code
   pub code : map (λ attribute. attribute.content) (filter (is_named file.pool (codes "Code")) file.method_attributes) ≡ spelled_code file.code ∷ []
-  pub thin : IsThinCode file.pool method.parameters file.code
+  pub thin : IsThinCode file.pool (length method.kinds) file.code
   pub stack : file.code.max_stack ≡ method.max_stack
   pub instructions : file.code.instructions ≡ method.instructions
 
@@ -212,3 +238,13 @@ pub record IsThinFile (bytes : List ℕ) (method : Method) : Type 0 where
   pub spelled : bytes ≡ spelled_file file
   pub has_class : IsThinClass file
   pub has_method : HasThinMethod file method
+
+-- What a caller may count on of the method of each thin file; not all that holds of it.
+pub record IsThinMethod (method : Method) : Type 0 where
+  pub walked : IsTrue (is_walked (length method.kinds) method.max_stack 0 method.instructions)
+  pub returns : IsTrue (ends_with_return method.instructions)
+  pub short : length method.instructions ≤ 19999
+  pub stack : method.max_stack ≤ 256
+  pub parameters : length method.kinds ≤ 8
+  pub kinds : IsTrue (list_all is_thin_kind method.kinds)
+  pub result : IsTrue (is_thin_kind method.result)

@@ -1,19 +1,21 @@
-//! Thin files: class files of one class with one static method over ints, whose code has no branch.
+//! Thin files: class files of one class with one static method over ints and booleans, whose code
+//! computes, branches ahead and returns.
 
-ghost use Rattle.std.specs.Prelude.{◌≡◌, ◌<◌, ◌≤◌, ℕ, List, All, Some, IfOk, IfSome, IfNone, IsTrue};
+ghost use Rattle.std.specs.Prelude.{◌≡◌, ◌<◌, ℕ, List, All, Some, IfOk, IfSome, IfNone};
 ghost use Rattle.std.specs.Option.{option_map};
-ghost use Rattle.ms_classfile.specs.Instructions.{is_walked};
-ghost use Rattle.ms_classfile.specs.ThinFile.{Method, IsThinFile};
+ghost use Rattle.ms_classfile.specs.ThinFile.{Method, IsThinFile, IsThinMethod};
 ghost use Rattle.ms_classfile.specs.Reading.{thin_method};
 ghost use Rattle.ms_classfile.specs.Found.{Gives, view};
 
 mod attributes;
 mod class;
 mod code;
+mod decoding;
 mod failure;
 mod method;
 mod parts;
 mod pool;
+mod walking;
 
 use attributes::attributes;
 use class::{class_part, counts, header};
@@ -42,8 +44,8 @@ fn file(alloc: Global, bytes: &[u8]) -> Result<ThinMethod<'_>, Failure>
     Ok(method)
 }
 
-/// The method of the thin file that these bytes are, or `None` where they are none. The name and the
-/// descriptor are lent from the bytes. It fails for want of memory alone (JVMS SE 8, chapter 4).
+/// The method of the thin file that these bytes are, or `None` where they are none (JVMS SE 8, chapter 4).
+/// The name and the descriptor are lent from the bytes. It fails for want of memory alone.
 pub fn read_thin(alloc: Global, bytes: &[u8]) -> Result<Option<ThinMethod<'_>>, NoMemory>
     // The bytes are a thin file with the method that is found; where none is found, they are no thin file.
     ensures thin { IfOk result (λ found. IfSome found (λ method. IsThinFile bytes.now (view method))) }
@@ -52,10 +54,8 @@ pub fn read_thin(alloc: Global, bytes: &[u8]) -> Result<Option<ThinMethod<'_>>, 
     // What is found is what reading these bytes from left to right gives.
     ensures found { IfOk result (λ found. option_map view found ≡ thin_method bytes.now) }
 
-    // Its code is walked, so that each instruction finds its operands, below these limits.
-    ensures walked { IfOk result (λ found. IfSome found (λ method. IsTrue (is_walked method.parameters method.max_stack 0 method.instructions.items))) }
-    ensures low { IfOk result (λ found. IfSome found (λ method. method.max_stack ≤ 256)) }
-    ensures few { IfOk result (λ found. IfSome found (λ method. method.parameters ≤ 4)) }
+    // What holds of each thin method holds of it.
+    ensures method { IfOk result (λ found. IfSome found (λ method. IsThinMethod (view method))) }
 {
     match file(alloc, bytes) {
         Ok(method) => Ok(Some(method)),
@@ -71,6 +71,6 @@ pub fn thin_files_are_read()
     ensures read { (bytes : List ℕ) (method : Method) → All (λ byte. byte < 256) bytes → thin_method bytes ≡ Some method → IsThinFile bytes method }
     // A thin file is read.
     ensures only { (bytes : List ℕ) (method : Method) → IsThinFile bytes method → thin_method bytes ≡ Some method }
-    // It has one method.
+    // The bytes determine the method.
     ensures one { (bytes : List ℕ) (first second : Method) → IsThinFile bytes first → IsThinFile bytes second → first ≡ second }
 {}

@@ -1,9 +1,12 @@
 -- The text of replies.
-use Rattle.std.specs.Prelude.{ℕ, ◌+◌, ◌/◌, ◌%◌, List, [], ◌∷◌, ◌++◌, ℤ, Bool, not, ◌&&◌, ◌==◌, nat_le, nat_lt, if◌then◌else◌, codes}
+use Rattle.std.specs.Prelude.{ℕ, ◌+◌, ◌/◌, ◌%◌, List, [], ◌∷◌, ◌++◌, Bool, not, ◌&&◌, ◌==◌, nat_le, nat_lt, if◌then◌else◌, codes}
 use Rattle.std.specs.List.{flat_map}
 use Rattle.std.specs.Fmt.{signed_decimal}
+use Rattle.ms_words.specs.declared.end.Ended.TheVariants.{Returned}
+use Rattle.ms_words.specs.declared.end.PathEnd.{PathEnd}
+use Rattle.ms_words.specs.declared.end.PathEnd.TheVariants.{Ended, Cut}
 use Rattle.ms_command.specs.declared.reply.Reply.{Reply}
-use Rattle.ms_command.specs.declared.reply.Reply.TheVariants.{Ran, NoCommand, Absent, NotBuilt}
+use Rattle.ms_command.specs.declared.reply.Reply.TheVariants.{Ran, NoLine, NoCommand, Absent, Range, NotBuilt}
 
 -- a hexadecimal digit, the letters small
 abbrev pub hex_digit : ℕ → ℕ
@@ -20,9 +23,10 @@ printed_byte byte = if is_printed byte then byte ∷ [] else 92 ∷ 120 ∷ hex_
 abbrev pub printed_name : List ℕ → List ℕ
 printed_name name = flat_map printed_byte name
 
--- how the end of a run that returned a word is printed
-abbrev pub returned_text : ℤ → List ℕ
-returned_text word = codes "returns " ++ signed_decimal word
+-- how the end of a path is printed
+abbrev pub end_text : PathEnd → List ℕ
+end_text (Ended (Returned word)) = codes "returns " ++ signed_decimal word
+end_text Cut = codes "cut"
 
 -- a line feed
 abbrev pub line_end : List ℕ
@@ -31,6 +35,8 @@ line_end = 10 ∷ []
 -- the text of a reply, which is one line
 abbrev pub reply_text : Reply → List ℕ
 reply_text (Ran end) = codes "ok " ++ end ++ line_end
+reply_text NoLine = codes "refused 1 Line" ++ line_end
 reply_text NoCommand = codes "refused 2 Command" ++ line_end
 reply_text (Absent file) = codes "refused 3 Absent " ++ printed_name file ++ line_end
+reply_text Range = codes "refused 13 Range" ++ line_end
 reply_text NotBuilt = codes "refused 90 NotBuilt" ++ line_end

@@ -1,11 +1,14 @@
-ghost use Rattle.std.specs.Prelude.{◌≡◌, IfOk, map, MatchResult, Some};
+ghost use Rattle.std.specs.Prelude.{◌≡◌, IfOk, map, MatchResult, Some, None, Ok, if◌then◌else◌};
+ghost use Rattle.std.specs.List.{list_all};
 ghost use Rattle.std.specs.Option.{option_map};
+ghost use Rattle.ms_words.specs.Inputs.{is_of};
+ghost use Rattle.ms_words.specs.declared.kind.Kind.TheVariants.{I};
 ghost use Rattle.ms_command.specs.Numerals.{number_values};
 ghost use Rattle.ms_command.specs.Commands.{Refuses, command_of, command_of_tokens, once_of};
 
 use crate::number::number;
-use crate::numbers::Numbers;
 use crate::tokens::{cut, is_plain_line};
+use crate::words::Words;
 use ms_words::{Name, NoMemory};
 use std::alloc::Global;
 use thiserror::Error;
@@ -15,21 +18,27 @@ use thiserror::Error;
 pub enum Command {
     /// A line without a token: it does nothing and has no reply.
     Nothing,
-    /// Runs the method of this name and descriptor of the class in the file, on these numbers.
+    /// Runs the method of this name and descriptor of the class in the file, on these words.
     Once {
         file: Name,
         name: Name,
         desc: Name,
-        words: Numbers,
+        words: Words,
     },
 }
 
 /// Why a line is no command.
 #[derive(Clone, Copy, Debug, PartialEq, Eq, Drop, Error)]
 pub enum CommandRefusal {
+    /// The line has more than 4,096 bytes or one outside 0x20 to 0x7E.
+    #[error("the line has more than 4,096 bytes or one outside 0x20 to 0x7E")]
+    Line,
     /// No form of a command fits the line.
     #[error("no form of a command fits the line")]
     Command,
+    /// A form fits the line, and a number is outside its range: a word has 32 bits.
+    #[error("a number is outside its range")]
+    Range,
     /// Memory ran out.
     #[error("memory ran out")]
     NoMemory,
@@ -46,19 +55,21 @@ impl From<NoMemory> for CommandRefusal {
 }
 
 /// The command that a line is. The line stands without its line feed, and without the carriage
-/// return before that. It is refused as `Command` exactly where no form of a command fits.
+/// return before that. It is refused as `Line` exactly where it has more than 4,096 bytes or one
+/// outside 0x20 to 0x7E; else as `Command` exactly where no form of a command fits; else as `Range`
+/// exactly where a number is outside its range.
 pub fn read_command(alloc: Global, line: &[u8]) -> Result<Command, CommandRefusal>
-    ensures { MatchResult result (λ command. command_of line.now ≡ Some command) (λ refusal. Refuses refusal (command_of line.now)) }
+    ensures { MatchResult result (λ command. command_of line.now ≡ Ok command) (λ refusal. Refuses refusal (command_of line.now)) }
 {
     if !is_plain_line(line) {
-        return Err(CommandRefusal::Command);
+        return Err(CommandRefusal::Line);
     }
     let tokens = cut(alloc, line)?;
     command_from(alloc, tokens.as_slice())
 }
 
 fn command_from(alloc: Global, tokens: &[&[u8]]) -> Result<Command, CommandRefusal>
-    ensures { MatchResult result (λ command. command_of_tokens (map (λ token. token.now) tokens.now) ≡ Some command) (λ refusal. Refuses refusal (command_of_tokens (map (λ token. token.now) tokens.now))) }
+    ensures { MatchResult result (λ command. command_of_tokens (map (λ token. token.now) tokens.now) ≡ Ok command) (λ refusal. Refuses refusal (command_of_tokens (map (λ token. token.now) tokens.now))) }
 {
     match tokens {
         [] => Ok(Command::Nothing),
@@ -68,19 +79,22 @@ fn command_from(alloc: Global, tokens: &[&[u8]]) -> Result<Command, CommandRefus
 }
 
 fn once(alloc: Global, arguments: &[&[u8]]) -> Result<Command, CommandRefusal>
-    ensures { MatchResult result (λ command. once_of (map (λ token. token.now) arguments.now) ≡ Some command) (λ refusal. Refuses refusal (once_of (map (λ token. token.now) arguments.now))) }
+    ensures { MatchResult result (λ command. once_of (map (λ token. token.now) arguments.now) ≡ Ok command) (λ refusal. Refuses refusal (once_of (map (λ token. token.now) arguments.now))) }
 {
     let [file, name, desc, words @ ..] = arguments else {
         return Err(CommandRefusal::Command);
     };
-    let Some(words) = numbers(alloc, words)? else {
+    let Some(numbers) = numbers(alloc, words)? else {
         return Err(CommandRefusal::Command);
+    };
+    let Some(words) = words_of(alloc, numbers.as_slice())? else {
+        return Err(CommandRefusal::Range);
     };
     Ok(Command::Once {
         file: Name::of(alloc, file)?,
         name: Name::of(alloc, name)?,
         desc: Name::of(alloc, desc)?,
-        words: Numbers::new(words),
+        words,
     })
 }
 
@@ -96,4 +110,18 @@ fn numbers(alloc: Global, tokens: &[&[u8]]) -> Result<Option<Vec<i64>>, NoMemory
         numbers.push(value)?;
     }
     Ok(Some(numbers))
+}
+
+/// The words that numbers are, or `None` where one is no word of 32 bits.
+fn words_of(alloc: Global, numbers: &[i64]) -> Result<Option<Words>, NoMemory>
+    ensures { IfOk result (λ found. found ≡ (if list_all (is_of I) numbers.now then Some numbers.now else None)) }
+{
+    let mut words = Words::new(alloc);
+    for number in numbers {
+        let Ok(word) = i32::try_from(*number) else {
+            return Ok(None);
+        };
+        words.push(word)?;
+    }
+    Ok(Some(words))
 }

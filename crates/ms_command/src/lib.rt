@@ -6,10 +6,10 @@
 
 mod command;
 mod number;
-mod numbers;
 mod reply;
 mod tokens;
+mod words;
 
 pub use command::{Command, CommandRefusal, read_command};
-pub use numbers::Numbers;
-pub use reply::{Reply, returned, write_reply};
+pub use reply::{Reply, end_text, write_reply};
+pub use words::Words;

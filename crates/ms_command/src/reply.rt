@@ -1,7 +1,8 @@
 ghost use Rattle.std.specs.Prelude.{◌≡◌, ◌<◌, ◌++◌, IfOk, OnOk};
-ghost use Rattle.ms_command.specs.Texts.{hex_digit, is_printed, line_end, printed_byte, printed_name, reply_text, returned_text};
+ghost use Rattle.ms_command.specs.Texts as texts;
+ghost use Rattle.ms_command.specs.Texts.{hex_digit, is_printed, line_end, printed_byte, printed_name, reply_text};
 
-use ms_words::{Name, NoMemory};
+use ms_words::{Ended, Name, NoMemory, PathEnd};
 use std::alloc::Global;
 
 /// A reply to a command.
@@ -9,20 +10,29 @@ use std::alloc::Global;
 pub enum Reply {
     /// `ok END`: the command ran a method, and this is how the run ended, as it is printed.
     Ran { end: Name },
+    /// `refused 1 Line`: the line has more than 4,096 bytes or one outside 0x20 to 0x7E.
+    NoLine,
     /// `refused 2 Command`: no form of a command fits the line.
     NoCommand,
     /// `refused 3 Absent FILE`: there is no file of this name.
     Absent { file: Name },
+    /// `refused 13 Range`: a form of a command fits the line, and a number is outside its range.
+    Range,
     /// `refused 90 NotBuilt`: the file, the method or the words are beyond what is built so far.
     NotBuilt,
 }
 
-/// How the end of a run that returned this word is printed: `returns N`.
-pub fn returned(alloc: Global, word: i32) -> Result<Name, NoMemory>
-    ensures { IfOk result (λ text. text ≡ returned_text word) }
+/// How the end of a path is printed: `returns N`, or `cut`.
+pub fn end_text(alloc: Global, end: &PathEnd) -> Result<Name, NoMemory>
+    ensures { IfOk result (λ text. text ≡ texts.end_text end.now) }
 {
-    let text = format!(in alloc; "returns {word}")?;
-    Name::of(alloc, text.as_bytes())
+    match end {
+        PathEnd::Ended(Ended::Returned(word)) => {
+            let text = format!(in alloc; "returns {word}")?;
+            Name::of(alloc, text.as_bytes())
+        }
+        PathEnd::Cut => Name::of(alloc, b"cut"),
+    }
 }
 
 /// The text of a reply: one line, ended by a line feed. In the name of a file each byte outside 0x21
@@ -32,11 +42,13 @@ pub fn write_reply(alloc: Global, reply: &Reply) -> Result<Vec<u8>, NoMemory>
 {
     match reply {
         Reply::Ran { end } => line(alloc, b"ok ", end.bytes()),
+        Reply::NoLine => line(alloc, b"refused 1 Line", b""),
         Reply::NoCommand => line(alloc, b"refused 2 Command", b""),
         Reply::Absent { file } => {
             let name = printed(alloc, file.bytes())?;
             line(alloc, b"refused 3 Absent ", name.as_slice())
         }
+        Reply::Range => line(alloc, b"refused 13 Range", b""),
         Reply::NotBuilt => line(alloc, b"refused 90 NotBuilt", b""),
     }
 }

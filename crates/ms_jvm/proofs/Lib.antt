@@ -1,1 +1,7 @@
-pub mod Walked
+pub mod Parameters
+pub mod Codes
+pub mod Standing
+pub mod Following
+pub mod Finished
+pub mod Ending
+mod Example

@@ -1,72 +1,44 @@
-ghost use Rattle.std.specs.Prelude.{◌≡◌, ◌<◌, ◌↔◌, ℕ, ℤ, List, [], length, IsTrue, IsSome, IfOk, OnOk, Some};
-ghost use Rattle.ms_words.specs.Words.{applied2};
-ghost use Rattle.ms_classfile.specs.Instructions.{is_walked};
-ghost use Rattle.ms_jvm.specs.Runs.{IsReady, combined, stack_after, returned_word};
+ghost use Rattle.std.specs.Prelude.{◌≡◌, ◌≤◌, ℕ, length, IfOk, IsSome, Some};
+ghost use Rattle.ms_words.specs.Inputs.{Words};
+ghost use Rattle.ms_classfile.specs.Found.{view};
+ghost use Rattle.ms_classfile.specs.ThinFile.{IsThinMethod, Method};
+ghost use Rattle.ms_machine.specs.Laws.{IsWhole};
+ghost use Rattle.ms_machine.specs.Runs.{end_of, string};
+ghost use Rattle.ms_jvm.specs.Ends.{path_end_of};
+ghost use Rattle.ms_jvm.specs.Programs.{program_of};
 
-use crate::stack::OperandStack;
-use ms_classfile::Instruction;
-use ms_words::{Bin, NoMemory, apply2};
-use std::alloc::{AllocError, Global};
+use crate::path::path_of;
+use ms_classfile::ThinMethod;
+use ms_words::{Input, NoMemory, PathEnd};
+use std::alloc::Global;
 
-/// The word that straight-line code returns, run on these words as its parameters. The code is walked
-/// with as many parameters, from an empty stack of at most `max_stack` words. It fails for want of
-/// memory alone.
-pub fn run(
-    alloc: Global,
-    max_stack: usize,
-    code: &[Instruction],
-    words: &[i32],
-) -> Result<i32, NoMemory>
-    requires { IsTrue (is_walked (length words.now) max_stack 0 code.now) }
-    ensures { IfOk result (λ word. returned_word words.now [] code.now ≡ Some word) }
-{
-    let mut stack = OperandStack::with_capacity(alloc, max_stack)?;
-    for instruction in code {
-        if is_return(*instruction) {
-            return Ok(stack.pop());
-        }
-        execute(*instruction, words, &mut stack)?;
-    }
-    unreachable!()
+/// How a run to a depth ends, and after how many choices.
+#[derive(Debug, Drop)]
+pub struct Ran {
+    /// How it ends: by itself, or cut where one choice more is due.
+    pub end: PathEnd,
+    /// The number of its choices, at most the depth.
+    pub arms: u16,
 }
 
-/// The law of walked code: it returns a word, whatever its locals hold. So a thin method that is run on
-/// as many words as it has parameters always returns one. It does nothing.
-pub fn walked_code_returns()
-    ensures { (locals : List ℤ) (most : ℕ) (code : List Instruction) → IsTrue (is_walked (length locals) most 0 code) → IsSome (returned_word locals [] code) }
+/// Runs a thin method on an input to a depth, 0 to 256. The input has the kinds of the method's
+/// parameters. It fails for want of memory alone (JVMS SE 8, section 6.5).
+pub fn run(alloc: Global, method: &ThinMethod<'_>, x: &Input, depth: u16) -> Result<Ran, NoMemory>
+    requires thin { IsThinMethod (view method.now) }
+    requires kinds { x.now.kinds ≡ method.now.kinds }
+    requires depth { depth ≤ 256 }
+    ensures end { IfOk result (λ ran. path_end_of (end_of (program_of (view method.now)) x.now depth) ≡ Some ran.end) }
+    ensures arms { IfOk result (λ ran. ran.arms ≡ length (string (program_of (view method.now)) x.now depth)) }
+{
+    let path = path_of(alloc, method, x, depth)?;
+    let arms = path.choices.arms().len() as u16;
+    Ok(Ran {
+        end: path.end,
+        arms,
+    })
+}
+
+/// The law of thin methods: each run returns a word or is cut. It does nothing.
+pub fn thin_methods_end()
+    ensures { (method : Method) (x : Words) (depth : ℕ) → IsThinMethod method → x.kinds ≡ method.kinds → IsWhole x → IsSome (path_end_of (end_of (program_of method) x depth)) }
 {}
-
-fn is_return(instruction: Instruction) -> bool
-    ensures { IsTrue result ↔ (instruction ≡ Instruction.Ireturn) }
-{
-    matches!(instruction, Instruction::Ireturn)
-}
-
-/// Executes an instruction that doesn't return.
-fn execute(
-    instruction: Instruction,
-    words: &[i32],
-    stack: &mut OperandStack,
-) -> Result<(), AllocError>
-    requires { IsReady (length words.now) (length stack.old) instruction }
-    ensures { OnOk result (stack_after words.now instruction stack.old ≡ Some stack.new) }
-{
-    match instruction {
-        Instruction::Iload(local) => stack.push(words[local as usize]),
-        Instruction::Iconst(word) => stack.push(word),
-        Instruction::Bipush(word) => stack.push(word),
-        Instruction::Iadd => combine(Bin::Add, stack),
-        Instruction::Isub => combine(Bin::Sub, stack),
-        Instruction::Ireturn => unreachable!(),
-    }
-}
-
-/// Replaces the two top words by what the operator gives; the upper one is the right operand.
-fn combine(op: Bin, stack: &mut OperandStack) -> Result<(), AllocError>
-    requires { 1 < length stack.old }
-    ensures { OnOk result (combined (applied2 op) stack.old ≡ Some stack.new) }
-{
-    let right = stack.pop();
-    let left = stack.pop();
-    stack.push(apply2(op, left, right))
-}

@@ -2,7 +2,7 @@
 use Rattle.std.proofs.Common.{◌≡◌, ℕ, zero, suc, pos, List, [], ◌∷◌, map, Option, Some, None, refl, sym, ap, ◌∙◌, slice_get}
 use Rattle.std.specs.Option.{option_map}
 use Rattle.ms_machine.specs.Ints.{Ints}
-use Rattle.ms_machine.specs.Effects.{Value, Int, Null, Array, Text, Throwable, Here, Doing, Effect, Does, Asks, Instr, Push, Load, Combine, Compare, CompareZero, ReturnValue, Compares, as_int, by_arm, effect, jump, next, on_int, on_some, on_top, relation}
+use Rattle.ms_machine.specs.Effects.{Value, Int, Null, Array, Text, Throwable, Here, Doing, Effect, Does, Asks, Instr, Push, Load, Change, Combine, Compare, CompareZero, ReturnValue, Compares, as_int, by_arm, effect, jump, next, on_int, on_some, on_top, relation}
 use Rattle.ms_machine.specs.Maps.{Respects, map_doing, map_effect, map_here, map_value, map_values}
 
 slice_get_map : {A B : Type 0} (f : A → B) (xs : List A) (i : ℕ) → slice_get (map f xs) i ≡ option_map f (slice_get xs i)
@@ -49,6 +49,7 @@ effect_map I J f r (Push word) here = ap (λ a. Does (next (map_here f here) (In
 effect_map I J f r (Load local) here =
     ap (λ o. on_some o (λ held. on_some held (λ v. Does (next (map_here f here) (v ∷ map_values f here.stack))))) (slice_get_map (option_map (map_value f)) here.locals local)
     ∙ on_some_map f (option_map (map_value f)) (slice_get here.locals local) _ _ (λ held. on_some_map f (map_value f) held _ _ (λ v. refl))
+effect_map I J f r (Change op) here = on_int_map f here.stack _ _ (λ a below. ap (λ c. Does (next (map_here f here) (Int c ∷ map_values f below))) (sym (r.unary op a)))
 effect_map I J f r (Combine op) here =
     on_int_map f here.stack _ _ (λ b rest. on_int_map f rest _ _ (λ a below.
     ap (λ c. Does (next (map_here f here) (Int c ∷ map_values f below))) (sym (r.binary op a b))))

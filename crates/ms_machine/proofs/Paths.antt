@@ -4,7 +4,7 @@ use Rattle.std.specs.List.{AllByRecursion}
 use Rattle.ms_words.specs.Inputs.{Words}
 use Rattle.ms_terms.specs.Terms.{Term, Constant}
 use Rattle.ms_machine.specs.Ints.{ints, shadows}
-use Rattle.ms_machine.specs.Effects.{Value, Int, Null, Array, Text, Throwable, Here, Stuck, Effect, Does, Asks, Instr, Push, Load, Combine, Compare, CompareZero, ReturnValue, Test, as_int, effect, next, on_int, on_some, on_top}
+use Rattle.ms_machine.specs.Effects.{Value, Int, Null, Array, Text, Throwable, Here, Stuck, Effect, Does, Asks, Instr, Push, Load, Change, Combine, Compare, CompareZero, ReturnValue, Test, as_int, effect, next, on_int, on_some, on_top}
 use Rattle.ms_machine.specs.Control.{Program, Views, State, View, Done, Goes, Ends, Step, Then, Chooses, here_of, performed, step, viewed}
 use Rattle.ms_machine.specs.Tests.{arm_of, arms_of, known_test, literals}
 use Rattle.ms_machine.specs.Segments.{After, Choice, Over, Segment, followed, forked, most_instructions, segment_from, segment_within}
@@ -42,6 +42,7 @@ effect_ordinary : (instr : Instr) (here : Here Term) → IsOrdinaryEffect (effec
 effect_ordinary (Push word) here = tt
 effect_ordinary (Load local) here = on_some_ordinary (slice_get here.locals local) (λ held. on_some held (λ v. Does (next here (v ∷ here.stack))))
     (λ held. on_some_ordinary held (λ v. Does (next here (v ∷ here.stack))) (λ v. tt))
+effect_ordinary (Change op) here = on_int_ordinary here.stack _ (λ a below. tt)
 effect_ordinary (Combine op) here = on_int_ordinary here.stack _ (λ b rest. on_int_ordinary rest _ (λ a below. tt))
 effect_ordinary (Compare comparison) here = on_int_ordinary here.stack _ (λ b rest. on_int_ordinary rest _ (λ a below. relation_ordinary comparison))
 effect_ordinary (CompareZero comparison) here = on_int_ordinary here.stack _ (λ a below. relation_ordinary comparison)

@@ -1,6 +1,7 @@
 -- What an instruction does to the frame that it stands in and to memory (JVMS SE 8, sections 2.6 and
 -- 6.5). Nothing here names a place of the program: where an instruction leads is said by `Control`.
 use Rattle.std.specs.Prelude.{ℕ, zero, suc, ℤ, pos, List, [], ◌∷◌, Option, Some, None, slice_get}
+use Rattle.ms_words.specs.declared.operator.Un.{Un}
 use Rattle.ms_words.specs.declared.operator.Bin.{Bin}
 use Rattle.ms_words.specs.declared.operator.Rel.{Rel}
 use Rattle.ms_words.specs.declared.operator.Rel.TheVariants.{Eq, Ne, Lt, Ge, Gt, Le}
@@ -31,6 +32,8 @@ pub data Instr : Type 0 where
   Push : ℤ → Instr
   -- puts the value of a local on the stack
   Load : ℕ → Instr
+  -- replaces an int by what the operator gives
+  Change : Un → Instr
   -- replaces two ints by what the operator gives
   Combine : Bin → Instr
   -- takes two ints, and branches where the relation holds
@@ -163,6 +166,7 @@ by_arm first second (suc arm) = second
 abbrev pub effect : {V : Type 0} → Ints V → Instr → Here V → Effect V
 effect I (Push word) here = Does (next here (Int (I.constant word) ∷ here.stack))
 effect I (Load local) here = on_some (slice_get here.locals local) (λ held. on_some held (λ v. Does (next here (v ∷ here.stack))))
+effect I (Change op) here = on_int here.stack (λ a below. Does (next here (Int (I.unary op a) ∷ below)))
 effect I (Combine op) here = on_int here.stack (λ b rest. on_int rest (λ a below. Does (next here (Int (I.binary op a b) ∷ below))))
 effect I (Compare comparison) here = on_int here.stack (λ b rest. on_int rest (λ a below. Asks (Compares (relation comparison) a b) (by_arm (next here below) (jump here below))))
 effect I (CompareZero comparison) here = on_int here.stack (λ a below. Asks (Compares (relation comparison) a (I.constant (pos 0))) (by_arm (next here below) (jump here below)))

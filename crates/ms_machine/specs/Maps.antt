@@ -1,6 +1,7 @@
 -- What a map of ints makes of states, segments and what comes after them.
 use Rattle.std.specs.Prelude.{◌≡◌, ℤ, List, map, Option}
 use Rattle.std.specs.Option.{option_map}
+use Rattle.ms_words.specs.declared.operator.Un.{Un}
 use Rattle.ms_words.specs.declared.operator.Bin.{Bin}
 use Rattle.ms_machine.specs.Ints.{Ints}
 use Rattle.ms_machine.specs.Effects.{Value, Int, Null, Array, Text, Throwable, Static, Memory, Here, End, Returned, ReturnedVoid, Threw, InitFailed, Missing, Runaway, Deep, SymLength, HeapFull, Stuck, Doing, Moves, Calls, Initialises, Returns, Raises, Stops, Effect, Does, Asks}
@@ -12,6 +13,7 @@ use Rattle.ms_machine.specs.Runs.{RunEnd, Ended, Cut}
 -- the map keeps constants, what operators give, and what is known
 pub record Respects {V W : Type 0} (I : Ints V) (J : Ints W) (f : V → W) : Type 0 where
   pub constant : (word : ℤ) → f (I.constant word) ≡ J.constant word
+  pub unary : (op : Un) (a : V) → f (I.unary op a) ≡ J.unary op (f a)
   pub binary : (op : Bin) (a b : V) → f (I.binary op a b) ≡ J.binary op (f a) (f b)
   pub known : (a : V) → J.known (f a) ≡ I.known a
 

@@ -2,7 +2,7 @@
 //! segments, strings and footprints are (JVMS SE 8, chapters 2 and 6). It is one machine for any kind
 //! of ints: words with shadow terms, terms alone, or words with a mark.
 //!
-//! So far it has the instructions that push a constant, load a local, compute with two ints, compare and
+//! So far it has the instructions that push a constant, load a local, compute with one int or two, compare and
 //! return.
 //!
 //! Its laws over whole runs, of any program, are the contracts of functions that have no effect.

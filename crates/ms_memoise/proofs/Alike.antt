@@ -1,5 +1,5 @@
 -- Lines that are the same command. What is kept of a line is the same command as the line.
-use Rattle.std.proofs.Common.{◌≡◌, ℕ, zero, suc, ◌+◌, ◌-◌, ◌<◌, ◌≤◌, List, [], ◌∷◌, ◌++◌, length, take, map, ◌==◌, refl, sym, ap, ◌∙◌, subst, subst₂, arith, inl, inr, Some, None, slice_get, slice_index}
+use Rattle.std.proofs.Common.{◌≡◌, ℕ, zero, suc, ◌+◌, ◌-◌, ◌<◌, ◌≤◌, List, [], ◌∷◌, ◌++◌, length, take, map, ◌==◌, refl, sym, ap, ◌∙◌, subst, subst₂, arith, inl, inr, Some, Err, slice_get, slice_index}
 use Rattle.std.proofs.lemmas.List.{take_all, length-take}
 use Rattle.std.proofs.lemmas.Bool.{cases_lt, cond_both, cond-false, lt-leb, ne_eqb, and_left}
 use Rattle.std.specs.List.{AllByRecursion}
@@ -7,6 +7,7 @@ use Rattle.std.specs.Str.Lines.{strip_carriage_return}
 use Rattle.std.specs.Io.KnownBytes.{Appends}
 use Rattle.ms_command.specs.Commands.{command_of}
 use Rattle.ms_command.specs.Lines.{most_line_bytes}
+use Rattle.ms_command.specs.declared.reply.Reply.TheVariants.{NoLine}
 use Rattle.ms_memoise.specs.declared.status.Status.{Status}
 use Rattle.ms_memoise.specs.Events.{AreAnswers, Event, IsAnswered, ShelfSide, lines_of, names_in, text_for, text_of, texts_of}
 use Rattle.ms_memoise.specs.Conversations.{Begun, SinkSide}
@@ -14,9 +15,9 @@ use Rattle.ms_memoise.specs.Feeding.{Broke, Did, most_kept}
 use Rattle.ms_memoise.specs.Turns.{last_lines}
 use Rattle.ms_memoise.proofs.Scanning.{cut}
 
--- a line that is too long is no command
-no_command : (line : List ℕ) → most_line_bytes < length line → command_of line ≡ None
-no_command line long = cond-false _ _ _ (and_left _ _ (lt-leb (length line) most_line_bytes long))
+-- a line that is too long is refused as one
+too_long : (line : List ℕ) → most_line_bytes < length line → command_of line ≡ Err NoLine
+too_long line long = cond-false _ _ _ (and_left _ _ (lt-leb (length line) most_line_bytes long))
 
 -- less a carriage return, a line is at most one byte shorter
 length_stripped : (line : List ℕ) → length line ≤ length (strip_carriage_return line) + 1
@@ -25,14 +26,14 @@ length_stripped line = cond_both (slice_index line (length line - 1) == 13) (tak
 pub stripped_command : (line : List ℕ) → command_of (strip_carriage_return (cut line)) ≡ command_of (strip_carriage_return line)
 stripped_command line = elim (cases_lt most_kept (length line)) [
   | inl long ↦
-      no_command (strip_carriage_return (cut line)) (omega (arith, length_stripped (cut line), length-take most_kept line))
-      ∙ sym (no_command (strip_carriage_return line) (omega (arith, length_stripped line)))
+      too_long (strip_carriage_return (cut line)) (omega (arith, length_stripped (cut line), length-take most_kept line))
+      ∙ sym (too_long (strip_carriage_return line) (omega (arith, length_stripped line)))
   | inr short ↦ ap (λ l. command_of (strip_carriage_return l)) (take_all most_kept line short)
 ]
 
 pub cut_command : (line : List ℕ) → command_of (cut line) ≡ command_of line
 cut_command line = elim (cases_lt most_kept (length line)) [
-  | inl long ↦ no_command (cut line) (omega (arith, length-take most_kept line)) ∙ sym (no_command line (omega arith))
+  | inl long ↦ too_long (cut line) (omega (arith, length-take most_kept line)) ∙ sym (too_long line (omega arith))
   | inr short ↦ ap command_of (take_all most_kept line short)
 ]
 

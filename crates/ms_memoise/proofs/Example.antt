@@ -1,11 +1,13 @@
 -- The definitions computed: lines, and the replies to a conversation.
-use Rattle.std.proofs.Common.{◌≡◌, ℕ, List, [], ◌∷◌, ◌++◌, refl, codes}
+use Rattle.std.proofs.Common.{◌≡◌, ℕ, List, [], ◌∷◌, ◌++◌, refl, codes, replicate}
 use Rattle.std.specs.Int.{int_wrap}
 use Rattle.std.specs.Fmt.{digits}
 use Rattle.std.specs.Str.Lines.{lines}
 use Rattle.ms_outside.specs.Shelves.{File}
-use Rattle.ms_classfile.specs.Reading.{thin_method, repeated, text_at, class_at, entry_at, pool_at, attribute_at, attributes_at, instructions_of, limits_at, rest_is_plain, code_of, method_at, header_at, class_part_at, counts_at}
+use Rattle.ms_classfile.specs.Reading.{thin_method, repeated, text_at, class_at, entry_at, pool_at, attribute_at, attributes_at, load_at, push_at, offset_at, branch_at, operand_at, instruction_at, instructions_at, limits_at, rest_is_plain, code_of, method_at, header_at, class_part_at, counts_at}
+use Rattle.ms_machine.specs.Segments.{most_instructions}
 use Rattle.ms_memoise.specs.Lines.{whole_lines}
+use Rattle.ms_memoise.specs.Replies.{once_end}
 use Rattle.ms_memoise.specs.Events.{replies}
 
 -- a carriage return goes before a line feed alone, and the last line counts where it isn't empty
@@ -19,12 +21,28 @@ some_whole_lines = refl
 abbrev file : List ℕ
 file = 202 ∷ 254 ∷ 186 ∷ 190 ∷ 0 ∷ 0 ∷ 0 ∷ 52 ∷ 0 ∷ 8 ∷ 1 ∷ 0 ∷ 1 ∷ 84 ∷ 7 ∷ 0 ∷ 1 ∷ 1 ∷ 0 ∷ 16 ∷ 106 ∷ 97 ∷ 118 ∷ 97 ∷ 47 ∷ 108 ∷ 97 ∷ 110 ∷ 103 ∷ 47 ∷ 79 ∷ 98 ∷ 106 ∷ 101 ∷ 99 ∷ 116 ∷ 7 ∷ 0 ∷ 3 ∷ 1 ∷ 0 ∷ 1 ∷ 102 ∷ 1 ∷ 0 ∷ 5 ∷ 40 ∷ 73 ∷ 73 ∷ 41 ∷ 73 ∷ 1 ∷ 0 ∷ 4 ∷ 67 ∷ 111 ∷ 100 ∷ 101 ∷ 0 ∷ 33 ∷ 0 ∷ 2 ∷ 0 ∷ 4 ∷ 0 ∷ 0 ∷ 0 ∷ 0 ∷ 0 ∷ 1 ∷ 0 ∷ 9 ∷ 0 ∷ 5 ∷ 0 ∷ 6 ∷ 0 ∷ 1 ∷ 0 ∷ 7 ∷ 0 ∷ 0 ∷ 0 ∷ 16 ∷ 0 ∷ 2 ∷ 0 ∷ 2 ∷ 0 ∷ 0 ∷ 0 ∷ 4 ∷ 26 ∷ 27 ∷ 96 ∷ 172 ∷ 0 ∷ 0 ∷ 0 ∷ 0 ∷ 0 ∷ 0 ∷ []
 
+-- A class T whose method f(ZZ)I branches: 1 where the first parameter is true, and else 2 where the
+-- second is false, and else 0.
+abbrev branching : List ℕ
+branching = 202 ∷ 254 ∷ 186 ∷ 190 ∷ 0 ∷ 0 ∷ 0 ∷ 52 ∷ 0 ∷ 8 ∷ 1 ∷ 0 ∷ 1 ∷ 84 ∷ 7 ∷ 0 ∷ 1 ∷ 1 ∷ 0 ∷ 16 ∷ 106 ∷ 97 ∷ 118 ∷ 97 ∷ 47 ∷ 108 ∷ 97 ∷ 110 ∷ 103 ∷ 47 ∷ 79 ∷ 98 ∷ 106 ∷ 101 ∷ 99 ∷ 116 ∷ 7 ∷ 0 ∷ 3 ∷ 1 ∷ 0 ∷ 1 ∷ 102 ∷ 1 ∷ 0 ∷ 5 ∷ 40 ∷ 90 ∷ 90 ∷ 41 ∷ 73 ∷ 1 ∷ 0 ∷ 4 ∷ 67 ∷ 111 ∷ 100 ∷ 101 ∷ 0 ∷ 33 ∷ 0 ∷ 2 ∷ 0 ∷ 4 ∷ 0 ∷ 0 ∷ 0 ∷ 0 ∷ 0 ∷ 1 ∷ 0 ∷ 9 ∷ 0 ∷ 5 ∷ 0 ∷ 6 ∷ 0 ∷ 1 ∷ 0 ∷ 7 ∷ 0 ∷ 0 ∷ 0 ∷ 26 ∷ 0 ∷ 2 ∷ 0 ∷ 2 ∷ 0 ∷ 0 ∷ 0 ∷ 14 ∷ 26 ∷ 153 ∷ 0 ∷ 5 ∷ 4 ∷ 172 ∷ 27 ∷ 154 ∷ 0 ∷ 5 ∷ 5 ∷ 172 ∷ 3 ∷ 172 ∷ 0 ∷ 0 ∷ 0 ∷ 0 ∷ 0 ∷ 0 ∷ []
+
 abbrev shelf : List File
-shelf = record { name = codes "T.class"; bytes = file } ∷ []
+shelf = record { name = codes "T.class"; bytes = file } ∷ record { name = codes "B.class"; bytes = branching } ∷ []
 
 abbrev input : List ℕ
-input = codes "once T.class f (II)I 2147483647 1" ++ 10 ∷ codes "once T.class f (II)I -1 1" ++ 10 ∷ codes "once T.class f (II)I 1" ++ 10 ∷ codes "once U.class f (II)I 1 1" ++ 10 ∷ codes "twice"
+input = codes "once T.class f (II)I 2147483647 1" ++ 10 ∷ codes "once T.class f (II)I -1 1" ++ 10 ∷ codes "once T.class f (II)I 1" ++ 10 ∷ codes "once U.class f (II)I 1 1" ++ 10 ∷ codes "once T.class f (II)I 2147483648 1" ++ 10 ∷ 127 ∷ 10 ∷ codes "twice"
 
-some_replies : replies shelf input ≡ codes "ok returns -2147483648" ++ 10 ∷ codes "ok returns 0" ++ 10 ∷ codes "refused 90 NotBuilt" ++ 10 ∷ codes "refused 3 Absent U.class" ++ 10 ∷ codes "refused 2 Command" ++ 10 ∷ []
-unfolding int_wrap digits thin_method repeated text_at class_at entry_at pool_at attribute_at attributes_at instructions_of limits_at rest_is_plain code_of method_at header_at class_part_at counts_at
+some_replies : replies shelf input ≡ codes "ok returns -2147483648" ++ 10 ∷ codes "ok returns 0" ++ 10 ∷ codes "refused 90 NotBuilt" ++ 10 ∷ codes "refused 3 Absent U.class" ++ 10 ∷ codes "refused 13 Range" ++ 10 ∷ codes "refused 1 Line" ++ 10 ∷ codes "refused 2 Command" ++ 10 ∷ []
+unfolding int_wrap digits thin_method repeated text_at class_at entry_at pool_at attribute_at attributes_at load_at push_at offset_at branch_at operand_at instruction_at instructions_at limits_at rest_is_plain code_of method_at header_at class_part_at counts_at most_instructions once_end
 some_replies = refl
+
+-- a line of 4,097 bytes
+long_reply : replies [] (replicate 4097 32) ≡ codes "refused 1 Line" ++ 10 ∷ []
+long_reply = refl
+
+abbrev branches : List ℕ
+branches = codes "once B.class f (ZZ)I 0 1" ++ 10 ∷ codes "once B.class f (ZZ)I 0 0" ++ 10 ∷ codes "once B.class f (ZZ)I 1 0" ++ 10 ∷ codes "once B.class f (ZZ)I 2 0"
+
+branched_replies : replies shelf branches ≡ codes "ok returns 0" ++ 10 ∷ codes "ok returns 2" ++ 10 ∷ codes "ok returns 1" ++ 10 ∷ codes "refused 90 NotBuilt" ++ 10 ∷ []
+unfolding int_wrap digits thin_method repeated text_at class_at entry_at pool_at attribute_at attributes_at load_at push_at offset_at branch_at operand_at instruction_at instructions_at limits_at rest_is_plain code_of method_at header_at class_part_at counts_at most_instructions once_end
+branched_replies = refl

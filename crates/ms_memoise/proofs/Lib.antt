@@ -1,4 +1,5 @@
 pub mod Spans
+pub mod Called
 pub mod Preparing
 pub mod Handling
 pub mod Fed

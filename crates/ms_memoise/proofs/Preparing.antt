@@ -1,5 +1,5 @@
 -- When the text for a command is ready.
-use Rattle.std.proofs.Common.{◌≡◌, ℕ, List, [], ◌∷◌, map, refl, sym, ap, subst, Option, Some, None, IfSome, ℤ}
+use Rattle.std.proofs.Common.{◌≡◌, ℕ, List, [], ◌∷◌, map, refl, sym, ap, subst, Option, Some, None, Ok, IfSome, ℤ}
 use Rattle.ms_outside.specs.Counts.{CountsGrow}
 use Rattle.ms_outside.specs.Shelves.{Answer, File, IsWithinLimit, answer_of}
 use Rattle.ms_command.specs.declared.command.Command.TheVariants.{Once}
@@ -18,9 +18,9 @@ pub record Fetched (before now : ShelfSide) (name : List ℕ) (answer : Answer) 
   pub passes : ShelfPasses before now
   pub calm : now.counts.faults ≡ before.counts.faults
 
-pub prepared_once : (file name desc : List ℕ) (numbers : List ℤ) (answer : Answer) (before now : ShelfSide) (text : List ℕ) → Fetched before now file answer
-    → text ≡ reply_text (once_reply file name desc numbers answer) → Prepared (Some (Once file name desc numbers)) before now text
-prepared_once file name desc numbers answer before now text fetched is = record {
+pub prepared_once : (file name desc : List ℕ) (words : List ℤ) (answer : Answer) (before now : ShelfSide) (text : List ℕ) → Fetched before now file answer
+    → text ≡ reply_text (once_reply file name desc words answer) → Prepared (Ok (Once file name desc words)) before now text
+prepared_once file name desc words answer before now text fetched is = record {
   answers = answer ∷ [];
   given = record {
     each = refl;

@@ -1,5 +1,5 @@
 -- Events: lines with the shelf's answers to the file names in them, and what is written for one.
-use Rattle.std.specs.Prelude.{◌≡◌, ℕ, List, [], ◌∷◌, length, map, Option, Some, None, IfSome}
+use Rattle.std.specs.Prelude.{◌≡◌, ℕ, List, [], ◌∷◌, length, map, Option, IfSome, Result, Ok, Err}
 use Rattle.std.specs.List.{flat_map, AllByRecursion}
 use Rattle.std.specs.Str.Lines.{lines}
 use Rattle.ms_outside.specs.Counts.{ShelfCounts, Rose}
@@ -7,7 +7,7 @@ use Rattle.ms_outside.specs.Shelves as shelves
 use Rattle.ms_outside.specs.Shelves.{Answer, File, IsWithinLimit, answer_of}
 use Rattle.ms_command.specs.declared.command.Command.{Command}
 use Rattle.ms_command.specs.declared.command.Command.TheVariants.{Nothing, Once}
-use Rattle.ms_command.specs.declared.reply.Reply.TheVariants.{NoCommand}
+use Rattle.ms_command.specs.declared.reply.Reply.{Reply}
 use Rattle.ms_command.specs.Commands.{command_of}
 use Rattle.ms_command.specs.Texts.{reply_text}
 use Rattle.ms_memoise.specs.Replies.{once_reply}
@@ -17,22 +17,23 @@ pub record Event : Type 0 where
   pub line : List ℕ
   pub answers : List Answer
 
--- the names of files that a command asks for, in order
-abbrev pub names_in : Option Command → List (List ℕ)
-names_in None = []
-names_in (Some Nothing) = []
-names_in (Some (Once file name desc numbers)) = file ∷ []
+-- the names of files that a command asks for, in order; a line that is no command asks for none
+abbrev pub names_in : Result Command Reply → List (List ℕ)
+names_in (Err reply) = []
+names_in (Ok Nothing) = []
+names_in (Ok (Once file name desc words)) = file ∷ []
 
 -- the names of files that a line asks for
 abbrev pub asked : List ℕ → List (List ℕ)
 asked line = names_in (command_of line)
 
--- what is written for a command, by the answers: the text of its reply, or nothing for a line without a token
-abbrev pub text_for : Option Command → List Answer → List ℕ
-text_for None answers = reply_text NoCommand
-text_for (Some Nothing) answers = []
-text_for (Some (Once file name desc numbers)) [] = []
-text_for (Some (Once file name desc numbers)) (answer ∷ answers) = reply_text (once_reply file name desc numbers answer)
+-- What is written for a command, by the answers: the text of its reply, or nothing for a line without a
+-- token. For a line that is no command it is the text of the refusal that is its reply.
+abbrev pub text_for : Result Command Reply → List Answer → List ℕ
+text_for (Err reply) answers = reply_text reply
+text_for (Ok Nothing) answers = []
+text_for (Ok (Once file name desc words)) [] = []
+text_for (Ok (Once file name desc words)) (answer ∷ answers) = reply_text (once_reply file name desc words answer)
 
 -- what is written for an event
 abbrev pub text_of : Event → List ℕ

@@ -1,7 +1,7 @@
 -- For private functions: how bytes are fed to the program, one after another. Of a line it keeps the
 -- first bytes alone: as many as a command may have, a carriage return, and one more, which tells that
 -- the line is longer.
-use Rattle.std.specs.Prelude.{◌≡◌, ℕ, ◌<◌, ◌≤◌, List, [], ◌∷◌, ◌++◌, length, take, map, nat_lt, ◌==◌, if◌then◌else◌, Option, Result, MatchResult}
+use Rattle.std.specs.Prelude.{◌≡◌, ℕ, ◌<◌, ◌≤◌, List, [], ◌∷◌, ◌++◌, length, take, map, nat_lt, ◌==◌, if◌then◌else◌, Result, MatchResult}
 use Rattle.std.specs.List.{AllByRecursion}
 use Rattle.std.specs.Str.Lines.{strip_carriage_return}
 use Rattle.std.specs.Io.KnownBytes.{Appends}
@@ -10,6 +10,7 @@ use Rattle.ms_memoise.specs.declared.status.Status.{Status}
 use Rattle.ms_memoise.specs.declared.status.Status.TheVariants.{Done, Usage, ReadFault, WriteFault, NoMemory, ShelfFault, TooMuchInput}
 use Rattle.ms_outside.specs.Shelves.{Answer}
 use Rattle.ms_command.specs.declared.command.Command.{Command}
+use Rattle.ms_command.specs.declared.reply.Reply.{Reply}
 use Rattle.ms_memoise.specs.Events.{AreAnswers, Event, IsAnswered, ShelfSide, lines_of, names_in, text_for, texts_of}
 use Rattle.ms_memoise.specs.Conversations.{Begun, SinkSide}
 
@@ -50,7 +51,7 @@ abbrev pub Calm : ShelfSide → ShelfSide → SinkSide → SinkSide → Type 0
 Calm shelf shelf_now sink sink_now = (shelf_now.counts.faults ≡ shelf.counts.faults) × (sink_now.faults ≡ sink.faults)
 
 -- the text for a command is ready, by answers of the shelf
-pub record Prepared (command : Option Command) (before now : ShelfSide) (text : List ℕ) : Type 0 where
+pub record Prepared (command : Result Command Reply) (before now : ShelfSide) (text : List ℕ) : Type 0 where
   pub answers : List Answer
   pub given : AreAnswers before now (names_in command) answers
   pub is : text ≡ text_for command answers

@@ -1,16 +1,15 @@
-ghost use Rattle.std.specs.Prelude.{◌≡◌, IfOk, Some, MatchResult};
-ghost use Rattle.std.specs.List.{list_all};
+ghost use Rattle.std.specs.Prelude.{◌≡◌, Ok, MatchResult};
 ghost use Rattle.ms_command.specs.Commands.{command_of};
 ghost use Rattle.ms_command.specs.Texts.{reply_text};
 ghost use Rattle.ms_command.specs.declared.command.Command.TheVariants.{Once};
 ghost use Rattle.ms_classfile.specs.Reading.{thin_method};
-ghost use Rattle.ms_memoise.specs.Replies.{is_word, method_reply, once_reply};
+ghost use Rattle.ms_memoise.specs.Replies.{method_reply};
 ghost use Rattle.ms_memoise.specs.Feeding.{Hindered, Prepared};
 ghost use Rattle.ms_memoise.specs.Events.{shelf_side};
 
 use crate::call::call;
 use crate::status::Status;
-use ms_command::{Command, CommandRefusal, Numbers, Reply, read_command, write_reply};
+use ms_command::{Command, CommandRefusal, Reply, Words, read_command, write_reply};
 use ms_outside::{Fetch, Shelf};
 use ms_words::{Name, NoMemory};
 use std::alloc::Global;
@@ -23,7 +22,9 @@ pub fn answer<F: Shelf>(alloc: Global, line: &[u8], shelf: &mut F) -> Result<Vec
         (λ status. Hindered status (shelf_side (F.files shelf.old) (F.counts shelf.old)) (shelf_side (F.files shelf.new) (F.counts shelf.new))) }
 {
     match read_command(alloc, line) {
+        Err(CommandRefusal::Line) => text(alloc, &Reply::NoLine),
         Err(CommandRefusal::Command) => text(alloc, &Reply::NoCommand),
+        Err(CommandRefusal::Range) => text(alloc, &Reply::Range),
         Err(CommandRefusal::NoMemory) => Err(Status::NoMemory),
         Ok(Command::Nothing) => Ok(Vec::new(alloc)),
         Ok(
@@ -43,11 +44,11 @@ fn once<F: Shelf>(
     file: &Name,
     name: &Name,
     desc: &Name,
-    words: &Numbers,
+    words: &Words,
     shelf: &mut F,
 ) -> Result<Vec<u8>, Status>
     ensures { MatchResult result
-        (λ text. Prepared (Some (Once file.now name.now desc.now words.now)) (shelf_side (F.files shelf.old) (F.counts shelf.old)) (shelf_side (F.files shelf.new) (F.counts shelf.new)) text.items)
+        (λ text. Prepared (Ok (Once file.now name.now desc.now words.now)) (shelf_side (F.files shelf.old) (F.counts shelf.old)) (shelf_side (F.files shelf.new) (F.counts shelf.new)) text.items)
         (λ status. Hindered status (shelf_side (F.files shelf.old) (F.counts shelf.old)) (shelf_side (F.files shelf.new) (F.counts shelf.new))) }
 {
     match shelf.fetch(alloc, file.bytes()) {
@@ -80,7 +81,7 @@ fn called(
     bytes: &[u8],
     name: &Name,
     desc: &Name,
-    words: &Numbers,
+    words: &Words,
 ) -> Result<Vec<u8>, Status>
     ensures { MatchResult result (λ text. text.items ≡ reply_text (method_reply (thin_method bytes.now) name.now desc.now words.now)) (λ status. status ≡ Status.NoMemory) }
 {

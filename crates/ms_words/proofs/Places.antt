@@ -1,16 +1,17 @@
 -- Lemmas on the words of an input, place by place.
-use Rattle.std.proofs.Common.{Bool, false, ◌≡◌, ℕ, zero, suc, ◌+◌, ◌<◌, ◌≤◌, List, [], ◌∷◌, length, take, drop, replicate, get_or, slice_get, slice_set, ℤ, pos, to_z, of_z, w32, FitsSigned, Some, IsTrue, IfSome, ◌==◌, nat_lt, if◌then◌else◌, refl, ap, ◌∙◌, ◌-◌, arith}
+use Rattle.std.proofs.Common.{Bool, false, ◌≡◌, ℕ, zero, suc, ◌+◌, ◌<◌, ◌≤◌, List, [], ◌∷◌, length, take, drop, replicate, get_or, slice_get, slice_set, ℤ, pos, to_z, of_z, w32, FitsSigned, Some, IsTrue, IfSome, ◌==◌, ◌&&◌, ◌≢◌, nat_lt, if◌then◌else◌, refl, subst, ap, ◌∙◌, ◌-◌, arith}
 use Rattle.std.proofs.lemmas.Bool.{and_from, and_parts}
 use Rattle.std.proofs.lemmas.Bool.Decides.{nat_tests}
 use Rattle.std.proofs.lemmas.Int.{to_z-of_z}
 use Rattle.std.proofs.lemmas.List.{drop_more, drop-replicate, drop-set-lt, get_or-take, length-set, length-take, take_at, take-replicate}
 use Rattle.std.proofs.lemmas.Option.{slice_get-get_or}
+use Rattle.std.proofs.Math.Bool.{and-false}
 use Rattle.std.proofs.Math.Seq.{take-set-lt}
 use Rattle.ms_words.specs.declared.kind.Kind.{Kind}
 use Rattle.ms_words.specs.declared.kind.Kind.TheVariants.{Z, B, C, S, I}
 use Rattle.ms_words.specs.Inputs.{IsInput, is_of, are_of, comes_before, unsigned_of}
 use Rattle.ms_words.specs.Kept.{IsKept}
-use Rattle.ms_words.specs.Padding.{length_unpadded, padded, padded_is_padded}
+use Rattle.ms_words.specs.Padding.{IsPadded, length_unpadded, padded, padded_is_padded}
 
 -- 0 is a word of each kind
 pub is_of_zero : (kind : Kind) → IsTrue (is_of kind (pos 0))
@@ -31,6 +32,31 @@ length_are_of [] [] fit = refl
 length_are_of [] (word ∷ words) fit = (cc)
 length_are_of (kind ∷ kinds) [] fit = (cc)
 length_are_of (kind ∷ kinds) (word ∷ words) fit = ap suc (length_are_of kinds words (and_parts (is_of kind word) (are_of kinds words) fit).1)
+
+-- where there are more words or fewer, they are not of the kinds
+pub not_as_many : (kinds : List Kind) (words : List ℤ) → (length kinds ≢ length words) → are_of kinds words ≡ false
+not_as_many [] [] other = absurd (other refl)
+not_as_many [] (word ∷ words) other = refl
+not_as_many (kind ∷ kinds) [] other = refl
+not_as_many (kind ∷ kinds) (word ∷ words) other =
+    rw (not_as_many kinds words (λ same. other (ap suc same))) (and-false (is_of kind word))
+
+-- the words from place i on, by whether the one there is of its kind
+pub are_of_more : (kinds : List Kind) (words : List ℤ) (i : ℕ) (kind : Kind) (word : ℤ) (fits : Bool) → i < length kinds → i < length words
+    → FitsSigned w32 (get_or words i word) → fits ≡ is_of (get_or kinds i kind) (to_z w32 (of_z w32 (get_or words i word)))
+    → are_of (drop i kinds) (drop i words) ≡ (fits && are_of (drop (i + 1) kinds) (drop (i + 1) words))
+are_of_more kinds words i kind word fits in_kinds in_words word_fits fits_is =
+    rw (drop_more kinds i kind in_kinds, drop_more words i word in_words, simp to_z-of_z at fits_is) refl
+
+-- the places of an input with these words
+pub kept_words : (kinds : List Kind) (words : List ℤ) → length kinds ≤ 8 → IsTrue (are_of kinds words) → IsKept (padded Z kinds) (padded (pos 0) words) (length kinds)
+kept_words kinds words small fit =
+    let many = length_are_of kinds words fit in
+    record {
+      kinds_kept = padded_is_padded Z kinds small;
+      words_kept = subst (λ (n : ℕ). IsPadded (pos 0) (padded (pos 0) words) n) many (padded_is_padded (pos 0) words (omega arith));
+      of_kinds = rw (take_at kinds (replicate (8 - length kinds) Z) (length kinds) refl, take_at words (replicate (8 - length words) (pos 0)) (length kinds) many) fit;
+    }
 
 -- a word of its kind in place of another
 pub are_of-set : (kinds : List Kind) (words : List ℤ) (i : ℕ) (word : ℤ) → IsTrue (are_of kinds words) → IfSome (slice_get kinds i) (λ kind. IsTrue (is_of kind word)) → IsTrue (are_of kinds (slice_set words i word))

@@ -1,6 +1,7 @@
-ghost use Rattle.std.specs.Prelude.{◌≡◌, ◌<◌, List, ℤ, false, length, slice_set, slice_get, IfSome};
+ghost use Rattle.std.specs.Prelude.{◌≡◌, ◌<◌, ◌≤◌, List, ℤ, pos, false, length, slice_set, slice_get, IfSome, MatchOption};
 ghost use Rattle.std.specs.Bool.{OnFalse, OnTrue};
-ghost use Rattle.ms_words.specs.Inputs.{IsInput, bit_of, comes_before, is_of, zero_of};
+ghost use Rattle.ms_words.specs.Inputs.{IsInput, are_of, bit_of, comes_before, is_of, zero_of};
+ghost use Rattle.ms_words.specs.Padding.{padded};
 
 use crate::kind::{Kind, Kinds, MOST, eight_places};
 use std::marker::Model;
@@ -50,6 +51,23 @@ impl Input {
             words: [0; MOST],
             count: given.len(),
         }
+    }
+
+    /// The input of these kinds with these words, or `None` exactly where there isn't one word of its kind
+    /// for each parameter.
+    pub fn of(kinds: Kinds, words: &[i32]) -> Option<Input>
+        ensures input { MatchOption result (are_of kinds words.now ≡ false) (λ input. input ≡ record { kinds = kinds; words = words.now }) }
+        ensures kept { IfSome result IsInput }
+    {
+        let given = kinds.get();
+        if !are_words_of(given, words) {
+            return None;
+        }
+        Some(Input {
+            kinds: eight_places(given),
+            words: eight_words(words),
+            count: given.len(),
+        })
     }
 
     /// The kinds of the parameters.
@@ -111,6 +129,31 @@ pub fn input_less(a: &Input, b: &Input) -> bool
     ensures { result ≡ comes_before a.now.kinds a.now.words b.now.words }
 {
     words_less(&a.kinds[..a.count], a.words(), b.words())
+}
+
+/// The words, and 0 behind them up to eight.
+fn eight_words(words: &[i32]) -> [i32; MOST]
+    requires { length words.now ≤ 8 }
+    ensures { result ≡ padded (pos 0) words.now }
+{
+    let mut places = [0; MOST];
+    places[..words.len()].copy_from_slice(words);
+    places
+}
+
+/// Whether there is one word for each kind, and each is one of its kind.
+fn are_words_of(kinds: &[Kind], words: &[i32]) -> bool
+    ensures { result ≡ are_of kinds.now words.now }
+{
+    if kinds.len() != words.len() {
+        return false;
+    }
+    for (i, kind) in kinds.iter().enumerate() {
+        if !kind.has(words[i]) {
+            return false;
+        }
+    }
+    true
 }
 
 fn words_less(kinds: &[Kind], a: &[i32], b: &[i32]) -> bool

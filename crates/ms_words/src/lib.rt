@@ -18,6 +18,6 @@ pub use input::{Input, input_less};
 pub use item::Item;
 pub use kind::{Kind, Kinds};
 pub use name::Name;
-pub use operator::{Bin, Rel, apply2, holds};
+pub use operator::{Bin, Rel, Un, apply1, apply2, holds};
 pub use std::alloc::AllocError as NoMemory;
 pub use thrown::{Thrown, thrown_named};

@@ -1,6 +1,12 @@
 ghost use Rattle.std.specs.Prelude.{◌≡◌};
 ghost use Rattle.ms_words.specs.Relations.{related};
-ghost use Rattle.ms_words.specs.Words.{applied2};
+ghost use Rattle.ms_words.specs.Words.{applied1, applied2};
+
+/// An operator on one word (JVMS SE 8, section 6.5: ineg).
+#[derive(Clone, Copy, Debug, PartialEq, Eq)]
+pub enum Un {
+    Neg,
+}
 
 /// An operator on two words (JVMS SE 8, section 6.5: iadd, isub).
 #[derive(Clone, Copy, Debug, PartialEq, Eq)]
@@ -20,6 +26,15 @@ pub enum Rel {
     Gt,
     Le,
     Uge,
+}
+
+/// The word that the operator gives for a word. It takes no memory.
+pub fn apply1(op: Un, a: i32) -> i32
+    ensures { result ≡ applied1 op a }
+{
+    match op {
+        Un::Neg => a.wrapping_neg(),
+    }
 }
 
 /// The word that the operator gives for two words. It takes no memory.

@@ -1,7 +1,7 @@
 //! Class files: which of them are thin, and what their code does.
 
 use crate::running::check;
-use crate::worked::{ADDS, Change, changed, lengthened, thin};
+use crate::worked::{ADDS, Change, changed, lengthened, line_for, thin};
 use std::alloc::{AllocError, Global};
 use std::test::Fail;
 
@@ -196,7 +196,7 @@ static NO_CLASS: [(&str, &[Change]); 39] = [
 ];
 
 /// The same: its method and its code.
-static NO_METHOD: [(&str, &[Change]); 45] = [
+static NO_METHOD: [(&str, &[Change]); 44] = [
     ("a method that isn't static", &[(70, 2, b"\x00\x01")]),
     ("a native method", &[(70, 2, b"\x01\x09")]),
     ("an abstract method", &[(70, 2, b"\x04\x09")]),
@@ -290,7 +290,6 @@ static NO_METHOD: [(&str, &[Change]); 45] = [
         &[(92, 4, b"\x1a\x64\x1b\xac")],
     ),
     ("no return", &[(92, 4, b"\x1a\x1b\x60\x1b")]),
-    ("a return before the end", &[(92, 4, b"\x1a\xac\x1b\xac")]),
     (
         "a return of two words",
         &[(84, 2, b"\x00\x03"), (92, 4, b"\x1a\x1b\x1a\xac")],
@@ -367,7 +366,7 @@ fn a_class_is_no_throwable(rt: HostRuntime) -> Result<(), Fail> {
 }
 
 /// Descriptors, the highest stack, the number of locals, code, the words, and how the reply begins.
-static CODES: [(&str, usize, usize, &[u8], &str, &str); 36] = [
+static CODES: [(&str, usize, usize, &[u8], &str, &str); 37] = [
     ("(II)I", 2, 2, b"\x1a\x1b\x64\xac", " 5 3", "ok returns 2\n"),
     (
         "(II)I",
@@ -453,19 +452,22 @@ static CODES: [(&str, usize, usize, &[u8], &str, &str); 36] = [
     ("()I", 1, 0, b"\xac", "", NOT_BUILT),
     ("()I", 1, 0, b"", "", NOT_BUILT),
     ("()I", 1, 0, b"\x03\x10\xac", "", NOT_BUILT),
-    ("(IIIII)I", 1, 5, b"\x1a\xac", " 1 2 3 4 5", NOT_BUILT),
+    (
+        "(IIIII)I",
+        1,
+        5,
+        b"\x1a\xac",
+        " 1 2 3 4 5",
+        "ok returns 1\n",
+    ),
     ("(II)V", 1, 2, b"\x1a\xac", " 1 2", NOT_BUILT),
     ("(II)J", 1, 2, b"\x1a\xac", " 1 2", NOT_BUILT),
-    ("(IZ)I", 1, 2, b"\x1a\xac", " 1 0", NOT_BUILT),
+    ("(IZ)I", 1, 2, b"\x1a\xac", " 5 0", "ok returns 5\n"),
+    ("(II)I", 1, 2, b"\x1a\xac\x1b\xac", " 5 3", "ok returns 5\n"),
     ("([I)I", 1, 1, b"\x1a\xac", " 1", NOT_BUILT),
     ("I", 1, 1, b"\x03\xac", "", NOT_BUILT),
     ("(I)II", 1, 1, b"\x1a\xac", " 1", NOT_BUILT),
 ];
-
-/// The line that calls a method of this descriptor with these words.
-fn line_for(alloc: Global, descriptor: &str, words: &str) -> Result<String, AllocError> {
-    format!(in alloc; "once T.class f {descriptor}{words}")
-}
 
 #[test]
 fn code_runs(rt: HostRuntime) -> Result<(), Fail> {

@@ -6,6 +6,8 @@ use std::test::Fail;
 
 const NO_COMMAND: &str = "refused 2 Command\n";
 
+const RANGE: &str = "refused 13 Range\n";
+
 const NOT_BUILT: &str = "refused 90 NotBuilt\n";
 
 #[test]
@@ -27,7 +29,7 @@ refused 2 Command
 }
 
 /// Lines and their replies.
-static REPLIES: [(&str, &str); 50] = [
+static REPLIES: [(&str, &str); 52] = [
     ("once", NO_COMMAND),
     ("once T.class", NO_COMMAND),
     ("once T.class f", NO_COMMAND),
@@ -68,12 +70,12 @@ static REPLIES: [(&str, &str); 50] = [
         "once T.class f (II)I -2147483648 -2147483648",
         "ok returns 0\n",
     ),
-    ("once T.class f (II)I 2147483648 0", NOT_BUILT),
-    ("once T.class f (II)I 0 2147483648", NOT_BUILT),
-    ("once T.class f (II)I -2147483649 0", NOT_BUILT),
-    ("once T.class f (II)I 9999999999 0", NOT_BUILT),
-    ("once T.class f (II)I -9999999999 0", NOT_BUILT),
-    ("once T.class f (II)I 4294967297 2", NOT_BUILT),
+    ("once T.class f (II)I 2147483648 0", RANGE),
+    ("once T.class f (II)I 0 2147483648", RANGE),
+    ("once T.class f (II)I -2147483649 0", RANGE),
+    ("once T.class f (II)I 9999999999 0", RANGE),
+    ("once T.class f (II)I -9999999999 0", RANGE),
+    ("once T.class f (II)I 4294967297 2", RANGE),
     ("once T.class f (II)I 00000000001 0", NO_COMMAND),
     ("once T.class f (II)I -00000000001 0", NO_COMMAND),
     ("once T.class f (II)I - 1", NO_COMMAND),
@@ -87,10 +89,10 @@ static REPLIES: [(&str, &str); 50] = [
     ("once T.class f (II)I 1,2", NO_COMMAND),
     ("once T.class f (II)I 1 / :", NO_COMMAND),
     ("once U.class f (II)I", "refused 3 Absent U.class\n"),
-    (
-        "once U.class f (II)I 9999999999",
-        "refused 3 Absent U.class\n",
-    ),
+    // A number outside its range is seen before the file, and a token that is no number before that.
+    ("once U.class f (II)I 9999999999", RANGE),
+    ("once T.class g (II)I 1 2147483648", RANGE),
+    ("once T.class f (II)I 9999999999 x", NO_COMMAND),
     ("once U.class f (II)I x", NO_COMMAND),
     ("once t.class f (II)I 1 2", "refused 3 Absent t.class\n"),
     ("once a\\b f d", "refused 3 Absent a\\x5cb\n"),

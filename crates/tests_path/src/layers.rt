@@ -4,6 +4,7 @@
 use crate::worked::ADDS;
 use ms_classfile::thin_files_are_read;
 use ms_command::{CommandRefusal, Reply, write_reply};
+use ms_jvm::thin_methods_end;
 use ms_memoise::{MOST_INPUT, Status, memoise};
 use ms_outside::{
     Fetch, FolderShelf, Shelf, Shelved, StdSink, StdSource, SureShelf, SureSink, SureSource,
@@ -72,6 +73,7 @@ fn throwables_have_their_parents(rt: HostRuntime) {
 #[test]
 fn a_cursor_tells_its_place(rt: HostRuntime) {
     thin_files_are_read();
+    thin_methods_end();
     let mut cursor = Cursor::new(&[1, 2, 3, 4]);
     assert_eq!(rt; cursor.u2(), Ok(0x0102));
     assert_eq!(rt; cursor.u4(), Err(Short { at: 2 }));
@@ -87,6 +89,13 @@ fn faults_are_printed(rt: HostRuntime) -> Result<(), Fail> {
     assert_eq!(rt;
         text.as_str(),
         "the bytes end within what begins at 7; no form of a command fits the line; memory ran out"
+    );
+    let line = CommandRefusal::Line;
+    let range = CommandRefusal::Range;
+    let text = format!(in rt.alloc(); "{line}; {range}")?;
+    assert_eq!(rt;
+        text.as_str(),
+        "the line has more than 4,096 bytes or one outside 0x20 to 0x7E; a number is outside its range"
     );
     Ok(())
 }

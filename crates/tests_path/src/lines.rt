@@ -5,8 +5,11 @@ use crate::worked::ADDS;
 use std::alloc::{AllocError, Global};
 use std::test::Fail;
 
-/// The replies to the sum of 1 and 2, and to a line that is no command.
+/// The replies to the sum of 1 and 2, to a line that is too long or has a byte that isn't printable, and
+/// to a line that is no command.
 const SUM: &str = "ok returns 3\n";
+
+const NO_LINE: &str = "refused 1 Line\n";
 
 const NO_COMMAND: &str = "refused 2 Command\n";
 
@@ -19,23 +22,23 @@ static ENDS: [(&[u8], &str); 25] = [
     (b"   \n", ""),
     (b"   \r\n", ""),
     (b"   ", ""),
-    (b"\r", NO_COMMAND),
-    (b" \r", NO_COMMAND),
-    (b"\r\r\n", NO_COMMAND),
+    (b"\r", NO_LINE),
+    (b" \r", NO_LINE),
+    (b"\r\r\n", NO_LINE),
     (b"twice", NO_COMMAND),
     (b"twice\n", NO_COMMAND),
     (b"twice\r\n", NO_COMMAND),
     (b"once T.class f (II)I 1 2", SUM),
     (b"once T.class f (II)I 1 2\n", SUM),
     (b"once T.class f (II)I 1 2\r\n", SUM),
-    (b"once T.class f (II)I 1 2\r", NO_COMMAND),
-    (b"once T.class f (II)I 1 2\r\r\n", NO_COMMAND),
-    (b"once T.class f (II)I 1\r 2\n", NO_COMMAND),
-    (b"once T.class f (II)I 1\t2\n", NO_COMMAND),
-    (b"once T.class f (II)I 1 2 \x1f\n", NO_COMMAND),
-    (b"once T.class f (II)I 1 2 \x7f\n", NO_COMMAND),
-    (b"once T.class f (II)I 1 2 \x80\n", NO_COMMAND),
-    (b"once T.class f (II)I 1 2 \0\n", NO_COMMAND),
+    (b"once T.class f (II)I 1 2\r", NO_LINE),
+    (b"once T.class f (II)I 1 2\r\r\n", NO_LINE),
+    (b"once T.class f (II)I 1\r 2\n", NO_LINE),
+    (b"once T.class f (II)I 1\t2\n", NO_LINE),
+    (b"once T.class f (II)I 1 2 \x1f\n", NO_LINE),
+    (b"once T.class f (II)I 1 2 \x7f\n", NO_LINE),
+    (b"once T.class f (II)I 1 2 \x80\n", NO_LINE),
+    (b"once T.class f (II)I 1 2 \0\n", NO_LINE),
     (
         b"\ntwice\n\r\n  \nonce T.class f (II)I 1 2\r\n\nonce U.class f (II)I\n \ntwice",
         "refused 2 Command\nok returns 3\nrefused 3 Absent U.class\nrefused 2 Command\n",
@@ -66,30 +69,30 @@ static SIZES: [(&[u8], usize, &[u8], &str); 18] = [
     (b"once T.class f (II)I 1 2", 4096, b"", SUM),
     (b"once T.class f (II)I 1 2", 4096, b"\n", SUM),
     (b"once T.class f (II)I 1 2", 4096, b"\r\n", SUM),
-    (b"once T.class f (II)I 1 2", 4097, b"", NO_COMMAND),
-    (b"once T.class f (II)I 1 2", 4097, b"\n", NO_COMMAND),
-    (b"once T.class f (II)I 1 2", 4097, b"\r\n", NO_COMMAND),
-    (b"once T.class f (II)I 1 2", 4096, b"\r", NO_COMMAND),
-    (b"once T.class f (II)I 1 2", 4096, b"\r\r\n", NO_COMMAND),
-    (b"once T.class f (II)I 1 2", 4096, b"\r1\n", NO_COMMAND),
-    (b"once T.class f (II)I 1 2", 4097, b"\r \n", NO_COMMAND),
-    (b"once T.class f (II)I 1 2", 10_000, b"\n", NO_COMMAND),
+    (b"once T.class f (II)I 1 2", 4097, b"", NO_LINE),
+    (b"once T.class f (II)I 1 2", 4097, b"\n", NO_LINE),
+    (b"once T.class f (II)I 1 2", 4097, b"\r\n", NO_LINE),
+    (b"once T.class f (II)I 1 2", 4096, b"\r", NO_LINE),
+    (b"once T.class f (II)I 1 2", 4096, b"\r\r\n", NO_LINE),
+    (b"once T.class f (II)I 1 2", 4096, b"\r1\n", NO_LINE),
+    (b"once T.class f (II)I 1 2", 4097, b"\r \n", NO_LINE),
+    (b"once T.class f (II)I 1 2", 10_000, b"\n", NO_LINE),
     (b"", 4096, b"\r\n", ""),
     (b"", 4096, b"", ""),
-    (b"", 4097, b"\n", NO_COMMAND),
-    (b"", 4097, b"", NO_COMMAND),
-    (b"", 4097, b"\r\n", NO_COMMAND),
+    (b"", 4097, b"\n", NO_LINE),
+    (b"", 4097, b"", NO_LINE),
+    (b"", 4097, b"\r\n", NO_LINE),
     (
         b"",
         10_000,
         b"\n\ntwice",
-        "refused 2 Command\nrefused 2 Command\n",
+        "refused 1 Line\nrefused 2 Command\n",
     ),
     (
         b"twice",
         10_000,
         b"\nonce T.class f (II)I 1 2\n",
-        "refused 2 Command\nok returns 3\n",
+        "refused 1 Line\nok returns 3\n",
     ),
 ];
 

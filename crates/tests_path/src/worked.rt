@@ -69,3 +69,8 @@ pub fn lengthened(alloc: Global, size: usize) -> Result<Vec<u8>, AllocError> {
     }
     Ok(file)
 }
+
+/// The line that calls a method of this descriptor with these words.
+pub fn line_for(alloc: Global, descriptor: &str, words: &str) -> Result<String, AllocError> {
+    format!(in alloc; "once T.class f {descriptor}{words}")
+}

@@ -1,15 +1,13 @@
-ghost use Rattle.std.specs.Prelude.{◌≡◌, ◌<◌, length, map, IfSome, nat_le, ◌&&◌};
-ghost use Rattle.std.specs.Option.{option_map};
-ghost use Rattle.ms_pool.specs.Places.{beginning};
-ghost use Rattle.ms_classfile.specs.Instructions as walking;
+ghost use Rattle.std.specs.Prelude.{◌≡◌, map, nat_le, ◌&&◌};
 ghost use Rattle.ms_classfile.specs.Reading.{instructions_of, limits_at, code_of};
 ghost use Rattle.ms_classfile.specs.Reading as reading;
 ghost use Rattle.ms_classfile.specs.Found.{Finds, Gives, entry_view};
-ghost use Rattle.ms_classfile.specs.Found as found;
 
 use super::attributes::attributes;
+use super::decoding::instruction;
 use super::failure::{Failure, Refused};
 use super::parts::{Limits, PoolEntry};
+use super::walking::{ends_with_return, is_walked};
 use crate::Instruction;
 use ms_pool::Cursor;
 use std::alloc::Global;
@@ -20,75 +18,17 @@ const LONGEST: u32 = 19_999;
 /// The most words on the stack, and the most locals, that code has here.
 const MOST: u16 = 256;
 
-fn short_instruction(byte: u8) -> Option<Instruction>
-    ensures { result ≡ reading.short_instruction byte }
-{
-    match byte {
-        26..=29 => Some(Instruction::Iload(byte - 26)),
-        2..=8 => Some(Instruction::Iconst(i32::from(byte) - 3)),
-        96 => Some(Instruction::Iadd),
-        100 => Some(Instruction::Isub),
-        172 => Some(Instruction::Ireturn),
-        _ => None,
-    }
-}
-
-fn first_instruction(code: &[u8]) -> Option<(Instruction, &[u8])>
-    ensures first { option_map (λ found. (found.0, found.1.now)) result ≡ found.first_instruction code.now }
-    ensures shorter { IfSome result (λ found. length found.1.now < length code.now) }
-{
-    match code {
-        [] => None,
-        [16, word, rest @ ..] => Some((Instruction::Bipush(i32::from(word.cast_signed())), rest)),
-        [byte, rest @ ..] => Some((short_instruction(*byte)?, rest)),
-    }
-}
-
+/// The instructions that code is, one after another.
 fn instructions(alloc: Global, code: &[u8]) -> Result<Vec<Instruction>, Failure>
     ensures { Gives (λ found. found.items) result (instructions_of code.now) }
 {
+    let mut cursor = Cursor::new(code);
     let mut instructions = Vec::new(alloc);
-    let mut rest = code;
-    while !rest.is_empty() {
-        let Some((instruction, after)) = first_instruction(rest) else {
-            return Err(Failure::NotThin);
-        };
-        instructions.push(instruction)?;
-        rest = after;
+    while !cursor.is_at_end() {
+        let found = instruction(&mut cursor)?;
+        instructions.push(found)?;
     }
     Ok(instructions)
-}
-
-/// Whether the code is walked in order from an empty stack: each instruction finds its operands, the
-/// depth is at most `most`, each load names a parameter, and the return stands last, once, at depth 1.
-fn is_walked(parameters: usize, most: usize, code: &[Instruction]) -> bool
-    ensures { result ≡ walking.is_walked parameters most 0 code.now }
-{
-    let mut depth = 0usize;
-    for (at, instruction) in code.iter().enumerate() {
-        match *instruction {
-            Instruction::Iload(local) => {
-                if usize::from(local) >= parameters || depth >= most {
-                    return false;
-                }
-                depth += 1;
-            }
-            Instruction::Iconst(_) | Instruction::Bipush(_) => {
-                if depth >= most {
-                    return false;
-                }
-                depth += 1;
-            }
-            Instruction::Iadd | Instruction::Isub => {
-                if depth < 2 {
-                    return false;
-                }
-                depth -= 1;
-            }
-            Instruction::Ireturn => return depth == 1 && at + 1 == code.len(),
-        }
-    }
-    false
 }
 
 #[tactic(auto, unfolding(crate::specs::Reading::limits_at))]
@@ -151,7 +91,10 @@ pub fn code<'a>(
     rest_is_plain(alloc, pool, &mut cursor)?;
     let instructions = instructions(alloc, bytes)?;
     let max_stack = usize::from(limits.max_stack);
-    if !is_small(limits, parameters) || !is_walked(parameters, max_stack, &instructions) {
+    if !is_small(limits, parameters)
+        || !is_walked(parameters, max_stack, &instructions)
+        || !ends_with_return(&instructions)
+    {
         return Err(Failure::NotThin);
     }
     Ok((max_stack, instructions))

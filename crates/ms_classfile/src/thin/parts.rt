@@ -1,4 +1,5 @@
 use crate::Instruction;
+use ms_words::{Kind, Kinds};
 
 /// An entry of the constant pool: a text, lent, or a class with the number of its name
 /// (JVMS SE 8, sections 4.4.7 and 4.4.1).
@@ -31,14 +32,15 @@ pub struct Limits {
 pub struct ThinMethod<'a> {
     /// The method's name, in the bytes of its Utf8 entry.
     pub name: &'a [u8],
-    /// The descriptor: `(`, an `I` for each parameter, `)I` (JVMS SE 8, section 4.3.3).
+    /// The descriptor, with `Z` for boolean and `I` for int (JVMS SE 8, section 4.3.3).
     pub descriptor: &'a [u8],
-    /// The number of int parameters, 0 to 4.
-    pub parameters: usize,
+    /// The kinds of the parameters that the descriptor states, at most 8, each `Z` or `I`.
+    pub kinds: Kinds,
+    /// The kind of the result that the descriptor states, `Z` or `I`.
+    pub result: Kind,
     /// The most words that the operand stack may have by the file's declaration, 1 to 256
     /// (JVMS SE 8, section 4.7.3).
     pub max_stack: usize,
-    /// The code, 2 to 19,998 instructions: an even number, since it has one push more than operators.
-    /// The last is `Ireturn`.
+    /// The code, 2 to 19,998 instructions, of at most 19,999 bytes. The last is `Ireturn`.
     pub instructions: Vec<Instruction>,
 }

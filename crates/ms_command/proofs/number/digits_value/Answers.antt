@@ -1,4 +1,4 @@
-use Rattle.std.proofs.Common.{rules, arith, take, length, ◌≡◌, ap, Some, pos, true, w64}
+use Rattle.std.proofs.Common.{rules, take, ◌≡◌, ap, Some, pos, true, w64}
 use Rattle.std.proofs.lemmas.List.{take_all}
 use Rattle.std.proofs.lemmas.Int.{ints}
 use mir.Val.{to_z}

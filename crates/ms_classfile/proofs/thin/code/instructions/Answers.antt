@@ -1,16 +1,21 @@
-use Rattle.std.proofs.Common.{sym, rules, arith}
-use Rattle.std.proofs.lemmas.Grind.{common_steps}
-use Rattle.std.proofs.lemmas.List.{nil_from_length}
-use Rattle.ms_classfile.specs.Reading.{instructions_of}
-use Rattle.ms_classfile.proofs.Decoding.{goes_on, ends, is_done}
+use Rattle.std.proofs.Common.{◌≡◌, ◌≢◌, [], true, false, refl}
+use Rattle.std.proofs.lemmas.Result.{err_from_is_err_and}
+use Rattle.ms_classfile.proofs.Decoding.{instruction_shorter, goes_on, ends, is_done}
 use Rattle.ms_classfile.proofs.thin.code.instructions.Goals as goal
 
-pub returns-in_default : goal.returns-in_default
-returns-in_default c = ends c.loop-rest.instructions.items c.loop-rest.rest.now (instructions_of c.args.code.now) (search rules) (sym c.in_default.ensures.first) c.loop-rest.invariant
+pub returns-in_err-found : goal.returns-in_err-found
+returns-in_err-found c =
+    let some : c.loop-cursor.cursor.left ≢ [] = λ none. let same : false ≡ true = c.loop-cursor-test.ensures.1 none in cc in
+    let p = err_from_is_err_and c.from_residual.result c.from_residual.ensures.1 in
+    rw (p.1, p.2) (ends c.args.code.now c.loop-cursor.instructions.items c.loop-cursor.cursor c.loop-cursor.invariant some c.in_err-found.ensures)
 
-pub loop-rest-preserved : goal.loop-rest-preserved
-loop-rest-preserved c =
-    rw c.in_ok-push.ensures.items (goes_on c.loop-rest.instructions.items c.loop-rest.rest.now c.in-Some.instruction c.in-Some.after.now (instructions_of c.args.code.now) (sym c.in-Some.ensures.first) c.loop-rest.invariant)
+pub loop-cursor-smaller : goal.loop-cursor-smaller
+loop-cursor-smaller c = instruction_shorter c.loop-cursor.cursor (c.in_ok-found.found, c.instruction.new.cursor) c.in_ok-found.ensures
+
+pub loop-cursor-preserved : goal.loop-cursor-preserved
+loop-cursor-preserved c =
+    let some : c.loop-cursor.cursor.left ≢ [] = λ none. let same : false ≡ true = c.loop-cursor-test.ensures.1 none in cc in
+    rw c.in_ok-push.ensures.items (goes_on c.args.code.now c.loop-cursor.instructions.items c.loop-cursor.cursor c.in_ok-found.found c.instruction.new.cursor c.loop-cursor.invariant some c.in_ok-found.ensures)
 
 pub returns : goal.returns
-returns c = is_done c.loop-rest.instructions.items c.loop-rest.rest.now (instructions_of c.args.code.now) (nil_from_length c.loop-rest.rest.now (grind (arith, common_steps))) c.loop-rest.invariant
+returns c = is_done c.args.code.now c.loop-cursor.instructions.items c.loop-cursor.cursor c.loop-cursor.invariant (c.loop-cursor-test.ensures.0 refl)
