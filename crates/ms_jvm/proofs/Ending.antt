@@ -3,7 +3,6 @@ use Rattle.std.proofs.Common.{◌≡◌, ℕ, zero, suc, ◌+◌, ◌<◌, ◌�
 use Rattle.std.specs.Prelude.{ℤ, Option, ◌&&◌, nat_lt, IsSome}
 use Rattle.std.proofs.lemmas.Bool.{and_parts, ltb-true}
 use Rattle.ms_words.specs.declared.kind.Kind.{Kind}
-use Rattle.ms_words.specs.declared.operator.Rel.{Rel}
 use Rattle.ms_words.specs.Inputs.{Words}
 use Rattle.ms_classfile.specs.declared.instruction.Instruction.{Instruction}
 use Rattle.ms_classfile.specs.declared.instruction.Instruction.TheVariants.{IloadN, Iload, Iconst, Bipush, Iadd, Isub, If, IfIcmp, Ireturn}
@@ -11,13 +10,13 @@ use Rattle.ms_classfile.specs.Instructions.{depth_after, is_placed, is_return, s
 use Rattle.ms_classfile.specs.ThinFile.{IsThinMethod, Method}
 use Rattle.ms_machine.specs.Ints.{Ints, ints}
 use Rattle.ms_machine.specs.Ints as int
-use Rattle.ms_machine.specs.Effects.{Int, Does, Doing, Asks, Moves, Returns, Next, Target, Test, Compares, End, Returned, ReturnedVoid, Threw, InitFailed, Missing, Runaway, Deep, SymLength, HeapFull, Stuck, by_arm, effect, relation}
-use Rattle.ms_machine.specs.Control.{Done, memory_at_start, perform}
-use Rattle.ms_machine.specs.Tests.{arm_of, known_test}
+use Rattle.ms_machine.specs.Effects.{Comparison, Int, Does, Doing, Asks, Moves, Returns, Next, Target, Test, Compares, End, Returned, ReturnedVoid, Threw, InitFailed, Missing, Runaway, Deep, SymLength, HeapFull, Stuck, by_arm, effect}
+use Rattle.ms_machine.specs.Control.{Done, Goes, Ends, memory_at_start, perform}
+use Rattle.ms_machine.specs.Tests.{arm_of, arms_of, known_test}
 use Rattle.ms_machine.specs.Segments.{After, Choice, Over, forked, most_instructions, segment_from, segment_within}
-use Rattle.ms_machine.specs.Runs.{RunEnd, Ended, Cut, end_from, end_of, given, given_from, word_arm}
+use Rattle.ms_machine.specs.Runs.{RunEnd, Ended, Cut, after_arms, done_after, end_from, end_of, given, given_from, segment_after, word_arm}
 use Rattle.ms_machine.specs.Laws.{IsWhole}
-use Rattle.ms_jvm.specs.Ends.{path_end_of}
+use Rattle.ms_jvm.specs.Ends.{HasTwoArms, path_end_of}
 use Rattle.ms_jvm.specs.Programs.{code_from, comparison_of, distance_of, instr_of, program_of, views_of}
 use Rattle.ms_jvm.specs.Turns.{here_with, locals_of}
 use Rattle.ms_jvm.proofs.Codes.{IsWalked, arm_walks, behind, branch_empties, from_zero, placed, some_walked}
@@ -30,8 +29,8 @@ abbrev arms_with : {V : Type 0} → List V → List V → ℕ → Doing V
 arms_with parameters left = by_arm (Moves Next (here_with parameters left)) (Moves (Target 0) (here_with parameters left))
 
 data Turned {V : Type 0} (I : Ints V) (parameters stack : List V) (first : Instruction) : Type 0 where
-  Goes : (left : List V) → effect I (instr_of first) (here_with parameters stack) ≡ Does (Moves Next (here_with parameters left)) → is_return first ≡ false → length left ≡ depth_after (length stack) first → Turned I parameters stack first
-  Forks : (rel : Rel) (a b : V) (far : ℕ) (left : List V) → effect I (instr_of first) (here_with parameters stack) ≡ Asks (Compares rel a b) (arms_with parameters left) → distance_of first ≡ Some far → length left ≡ depth_after (length stack) first → Turned I parameters stack first
+  MovesOn : (left : List V) → effect I (instr_of first) (here_with parameters stack) ≡ Does (Moves Next (here_with parameters left)) → is_return first ≡ false → length left ≡ depth_after (length stack) first → Turned I parameters stack first
+  Forks : (comparison : Comparison) (a b : V) (far : ℕ) (left : List V) → effect I (instr_of first) (here_with parameters stack) ≡ Asks (Compares comparison a b) (arms_with parameters left) → distance_of first ≡ Some far → length left ≡ depth_after (length stack) first → Turned I parameters stack first
   Gives : (a : V) → effect I (instr_of first) (here_with parameters stack) ≡ Does (Returns (Some (Int a)) (memory_at_start 0)) → Turned I parameters stack first
 
 held : {V : Type 0} (parameters : List V) (local : ℕ) → local < length parameters → (a : V) × (slice_get (locals_of parameters) local ≡ Some (Some (Int a)))
@@ -46,21 +45,21 @@ loaded I parameters stack first local more stands use_it =
     use_it found.0 found.1
 
 turned : {V : Type 0} (I : Ints V) (parameters stack : List V) (most : ℕ) (first : Instruction) (rest : List Instruction) → is_placed (length parameters) most (length stack) first rest ≡ true → Turned I parameters stack first
-turned I parameters stack most (IloadN local) rest stands = loaded I parameters stack (IloadN local) local _ stands (λ a found. Goes (a ∷ stack) (rw found refl) refl (omega arith))
-turned I parameters stack most (Iload local) rest stands = loaded I parameters stack (Iload local) local _ stands (λ a found. Goes (a ∷ stack) (rw found refl) refl (omega arith))
-turned I parameters stack most (Iconst word) rest stands = Goes (I.constant word ∷ stack) refl refl (omega arith)
-turned I parameters stack most (Bipush word) rest stands = Goes (I.constant word ∷ stack) refl refl (omega arith)
+turned I parameters stack most (IloadN local) rest stands = loaded I parameters stack (IloadN local) local _ stands (λ a found. MovesOn (a ∷ stack) (rw found refl) refl (omega arith))
+turned I parameters stack most (Iload local) rest stands = loaded I parameters stack (Iload local) local _ stands (λ a found. MovesOn (a ∷ stack) (rw found refl) refl (omega arith))
+turned I parameters stack most (Iconst word) rest stands = MovesOn (I.constant word ∷ stack) refl refl (omega arith)
+turned I parameters stack most (Bipush word) rest stands = MovesOn (I.constant word ∷ stack) refl refl (omega arith)
 turned I parameters [] most Iadd rest stands = absurd cc
 turned I parameters (b ∷ []) most Iadd rest stands = absurd cc
-turned I parameters (b ∷ a ∷ stack) most Iadd rest stands = Goes (_ ∷ stack) refl refl (omega arith)
+turned I parameters (b ∷ a ∷ stack) most Iadd rest stands = MovesOn (_ ∷ stack) refl refl (omega arith)
 turned I parameters [] most Isub rest stands = absurd cc
 turned I parameters (b ∷ []) most Isub rest stands = absurd cc
-turned I parameters (b ∷ a ∷ stack) most Isub rest stands = Goes (_ ∷ stack) refl refl (omega arith)
+turned I parameters (b ∷ a ∷ stack) most Isub rest stands = MovesOn (_ ∷ stack) refl refl (omega arith)
 turned I parameters [] most (If condition far) rest stands = absurd cc
-turned I parameters (a ∷ stack) most (If condition far) rest stands = Forks (relation (comparison_of condition)) a _ far stack refl refl (omega arith)
+turned I parameters (a ∷ stack) most (If condition far) rest stands = Forks (comparison_of condition) a _ far stack refl refl (omega arith)
 turned I parameters [] most (IfIcmp condition far) rest stands = absurd cc
 turned I parameters (b ∷ []) most (IfIcmp condition far) rest stands = absurd cc
-turned I parameters (b ∷ a ∷ stack) most (IfIcmp condition far) rest stands = Forks (relation (comparison_of condition)) a b far stack refl refl (omega arith)
+turned I parameters (b ∷ a ∷ stack) most (IfIcmp condition far) rest stands = Forks (comparison_of condition) a b far stack refl refl (omega arith)
 turned I parameters [] most Ireturn rest stands = absurd cc
 turned I parameters (a ∷ stack) most Ireturn rest stands = Gives a refl
 
@@ -88,9 +87,9 @@ Gave SymLength = ⊥
 Gave HeapFull = ⊥
 Gave Stuck = ⊥
 
--- a choice each of whose arms stands in the code, or the end of a run that returned an int
+-- a choice of two arms, each of which stands in the code, or the end of a run that returned an int
 abbrev Comes : {V : Type 0} → Method → List V → ℕ → After V → Type 0
-Comes method parameters most (Choice test arms) = (arm : ℕ) → Stands method parameters most (arms arm)
+Comes method parameters most (Choice test arms) = (arms_of test ≡ 2) × ((arm : ℕ) → Stands method parameters most (arms arm))
 Comes method parameters most (Over end) = Gave end
 
 arm_stands : {V : Type 0} (method : Method) (parameters : List V) (offset far : ℕ) (stack left : List V) (branch : Instruction) (rest : List Instruction) → code_from offset method.instructions ≡ branch ∷ rest
@@ -121,7 +120,7 @@ longer : {V : Type 0} (method : Method) (parameters : List V) (few many : ℕ) (
 longer method parameters few many done le s = record { offset = s.offset; stack = s.stack; rest = s.rest; is = s.is; here = s.here; walks = s.walks; short = omega (arith, le, s.short) }
 
 comes_more : {V : Type 0} (method : Method) (parameters : List V) (few many : ℕ) (after : After V) → few ≤ many → Comes method parameters few after → Comes method parameters many after
-comes_more method parameters few many (Choice test arms) le c = λ arm. longer method parameters few many (arms arm) le (c arm)
+comes_more method parameters few many (Choice test arms) le c = (c.0, λ arm. longer method parameters few many (arms arm) le (c.1 arm))
 comes_more method parameters few many (Over end) le c = c
 
 stood : {V : Type 0} (I : Ints V) (method : Method) (parameters : List V) (n : ℕ) (done : Done V) → Stands method parameters n done
@@ -140,14 +139,14 @@ ComesWithin {V = V} I method parameters n =
 turns : {V : Type 0} (I : Ints V) (method : Method) (parameters : List V) (n : ℕ) → ComesWithin I method parameters n → (offset : ℕ) (stack : List V) (first : Instruction) (more : List Instruction)
     → code_from offset method.instructions ≡ first ∷ more → IsWalked (length parameters) method.max_stack (length stack) (first ∷ more) → length more ≤ n → Turned I parameters stack first
     → Comes method parameters (suc n) (segment_within I (views_of method.instructions) (suc n) (standing parameters offset stack)).after
-turns I method parameters n within offset stack first more here walks short (Goes left is goes_on depth_is) =
+turns I method parameters n within offset stack first more here walks short (MovesOn left is goes_on depth_is) =
     let walks_on = behind (length parameters) method.max_stack (length stack) first more walks goes_on in
     subst (Comes method parameters (suc n)) (sym (after_move I method.instructions parameters offset n stack left first more here (some_walked _ _ _ more walks_on) is))
     (comes_more method parameters n (suc n) _ (omega arith) (within (offset + size_of first) left more (code_behind offset method.instructions first more here)
     (subst (λ (d : ℕ). IsWalked (length parameters) method.max_stack d more) (sym depth_is) walks_on) short))
-turns {V = V} I method parameters n within offset stack first more here walks short (Forks rel a b far left is leads depth_is) =
-    subst (Comes method parameters (suc n)) (sym (after_test I method.instructions parameters offset n stack first more (Compares rel a b) (arms_with parameters left) here is))
-    (by_known (known_test I (Compares rel a b)))
+turns {V = V} I method parameters n within offset stack first more here walks short (Forks comparison a b far left is leads depth_is) =
+    subst (Comes method parameters (suc n)) (sym (after_test I method.instructions parameters offset n stack first more (Compares comparison a b) (arms_with parameters left) here is))
+    (by_known (known_test I (Compares comparison a b)))
   where
     arms : ℕ → Done V
     arms arm = perform (views_of method.instructions) (state_at parameters offset stack) (arms_with parameters left arm)
@@ -155,8 +154,8 @@ turns {V = V} I method parameters n within offset stack first more here walks sh
     each : (arm most : ℕ) → length more ≤ most → Stands method parameters most (arms arm)
     each arm most le = longer method parameters (length more) most (arms arm) le (each_stands method parameters offset far stack left first more here walks leads depth_is arm)
 
-    by_known : (test : Option (Test ℤ)) → Comes method parameters (suc n) (forked (Compares rel a b) arms (segment_within I (views_of method.instructions) n) test).after
-    by_known None = λ arm. each arm (suc n) (omega (arith, short))
+    by_known : (test : Option (Test ℤ)) → Comes method parameters (suc n) (forked (Compares comparison a b) arms (segment_within I (views_of method.instructions) n) test).after
+    by_known None = (refl, λ arm. each arm (suc n) (omega (arith, short)))
     by_known (Some words) = comes_more method parameters n (suc n) _ (omega arith) (stood I method parameters n (arms (arm_of words)) (each (arm_of words) n short) within)
 turns I method parameters n within offset stack first more here walks short (Gives a is) = subst (Comes method parameters (suc n)) (sym (after_return I method.instructions parameters offset n stack first more a here is)) tt
 
@@ -179,7 +178,7 @@ ends_after I method parameters decide zero (Over end) c = c
 ends_after I method parameters decide (suc depth) (Choice test arms) c =
     subst EndsSo (sym (end_is I (views_of method.instructions) decide depth (arms (decide test))))
     (ends_after I method parameters decide depth (segment_from I (views_of method.instructions) (arms (decide test))).after
-    (stood I method parameters most_instructions (arms (decide test)) (c (decide test)) (comes I method parameters most_instructions)))
+    (stood I method parameters most_instructions (arms (decide test)) (c.1 (decide test)) (comes I method parameters most_instructions)))
 ends_after I method parameters decide (suc depth) (Over end) c = c
 
 ends : {V : Type 0} (I : Ints V) (method : Method) (parameters : List V) (decide : Test V → ℕ) (depth : ℕ) (done : Done V) → Stands method parameters most_instructions done
@@ -206,11 +205,11 @@ length_given index [] words same = refl
 length_given index (kind ∷ kinds) [] same = absurd (omega (arith, same))
 length_given index (kind ∷ kinds) (word ∷ words) same = ap suc (length_given (suc index) kinds words (omega (arith, same)))
 
-pub method_ends : (method : Method) (x : Words) (depth : ℕ) → IsThinMethod method → x.kinds ≡ method.kinds → IsWhole x → IsSome (path_end_of (end_of (program_of method) x depth))
+start_stands : (method : Method) (x : Words) → IsThinMethod method → x.kinds ≡ method.kinds → IsWhole x → Stands method (given x) most_instructions (standing (given x) 0 [])
 unfolding most_instructions
-method_ends method x depth thin kinds whole =
+start_stands method x thin kinds whole =
     let many : length method.kinds ≡ length (given x) = sym (length_given 0 x.kinds x.words whole ∙ ap length kinds) in
-    some_end (end_of (program_of method) x depth) (ends ints method (given x) word_arm depth (standing (given x) 0 []) (record {
+    record {
       offset = 0;
       stack = [];
       rest = method.instructions;
@@ -218,4 +217,37 @@ method_ends method x depth thin kinds whole =
       here = from_zero method.instructions;
       walks = subst (λ (n : ℕ). IsWalked n method.max_stack 0 method.instructions) many (record { walked = thin.walked; returns = thin.returns });
       short = omega (arith, thin.short);
-    }))
+    }
+
+pub method_ends : (method : Method) (x : Words) (depth : ℕ) → IsThinMethod method → x.kinds ≡ method.kinds → IsWhole x → IsSome (path_end_of (end_of (program_of method) x depth))
+method_ends method x depth thin kinds whole =
+    some_end (end_of (program_of method) x depth) (ends ints method (given x) word_arm depth (standing (given x) 0 []) (start_stands method x thin kinds whole))
+
+-- ---- AFTER ANY ARMS
+
+-- the run stands in the code, or is over
+abbrev Located : {V : Type 0} → Method → List V → Done V → Type 0
+Located method parameters (Goes state) = Stands method parameters most_instructions (Goes state)
+Located method parameters (Ends end) = Unit {0}
+
+located : {V : Type 0} (method : Method) (parameters : List V) (done : Done V) → Stands method parameters most_instructions done → Located method parameters done
+located method parameters (Goes state) s = s
+located method parameters (Ends end) s = tt
+
+two_after : {V : Type 0} (I : Ints V) (method : Method) (parameters : List V) (done : Done V) → Located method parameters done
+    → HasTwoArms (segment_from I (views_of method.instructions) done).after × ((arm : ℕ) → Located method parameters (done_after (segment_from I (views_of method.instructions) done).after arm))
+two_after {V = V} I method parameters (Goes state) s =
+    by_after (segment_from I (views_of method.instructions) (Goes state)).after (stood I method parameters most_instructions (Goes state) s (comes I method parameters most_instructions))
+  where
+    by_after : (after : After V) → Comes method parameters most_instructions after → HasTwoArms after × ((arm : ℕ) → Located method parameters (done_after after arm))
+    by_after (Choice test arms) c = (c.0, λ arm. located method parameters (arms arm) (c.1 arm))
+    by_after (Over end) c = (tt, λ arm. tt)
+two_after I method parameters (Ends end) s = (tt, λ arm. tt)
+
+two_along : {V : Type 0} (I : Ints V) (method : Method) (parameters : List V) (done : Done V) (p : List ℕ) → Located method parameters done → HasTwoArms (segment_from I (views_of method.instructions) (after_arms I (views_of method.instructions) done p)).after
+two_along I method parameters done [] s = (two_after I method parameters done s).0
+two_along I method parameters done (arm ∷ arms) s =
+    two_along I method parameters (done_after (segment_from I (views_of method.instructions) done).after arm) arms ((two_after I method parameters done s).1 arm)
+
+pub method_two_arms : (method : Method) (x : Words) (p : List ℕ) → IsThinMethod method → x.kinds ≡ method.kinds → IsWhole x → HasTwoArms (segment_after (program_of method) x p).after
+method_two_arms method x p thin kinds whole = two_along ints method (given x) (standing (given x) 0 []) p (start_stands method x thin kinds whole)

@@ -78,7 +78,7 @@ footprint_second : footprint (program_of truths) (two (pos 0) (pos 1)) (1 ∷ []
 unfolding most_instructions
 footprint_second = refl
 
--- A COMPARISON OF CONSTANTS IS NO CHOICE, and a sum with a parameter in it is none: 0 bipush 100, 2 bipush 99, 4 if_icmpgt 9, 7 iconst_m1,
+-- A COMPARISON OF CONSTANTS IS NO CHOICE, and a test of a sum with a parameter in it is one: 0 bipush 100, 2 bipush 99, 4 if_icmpgt 9, 7 iconst_m1,
 -- 8 ireturn, 9 iload 0, 11 iconst_1, 12 iadd, 13 ifgt 18, 16 iload_0, 17 ireturn, 18 iconst_5, 19 ireturn
 
 abbrev mixed : Method

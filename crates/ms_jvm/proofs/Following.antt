@@ -3,14 +3,13 @@
 use Rattle.std.proofs.Common.{◌≡◌, ℕ, zero, suc, ◌+◌, ◌-◌, ◌<◌, ◌≤◌, Bool, true, false, cond, List, [], ◌∷◌, ◌++◌, length, Some, None, refl, sym, ap, subst, ◌∙◌, append_assoc, arith}
 use Rattle.std.specs.Prelude.{ℤ, Option, ◌&&◌}
 use Rattle.std.proofs.lemmas.List.{append-nil, length-append}
-use Rattle.ms_words.specs.declared.operator.Rel.{Rel}
 use Rattle.ms_words.specs.Inputs.{Words}
 use Rattle.ms_words.specs.Relations.{related}
 use Rattle.ms_classfile.specs.declared.instruction.Instruction.{Instruction}
 use Rattle.ms_classfile.specs.Instructions.{depth_after, is_return, size_of}
 use Rattle.ms_classfile.specs.ThinFile.{IsThinMethod, Method}
 use Rattle.ms_machine.specs.Ints.{Ints, Marked, marks}
-use Rattle.ms_machine.specs.Effects.{Int, Does, Asks, Doing, Moves, Returns, Next, Target, Test, Compares, Returned, by_arm, effect}
+use Rattle.ms_machine.specs.Effects.{Comparison, relation, Int, Does, Asks, Doing, Moves, Returns, Next, Target, Test, Compares, Returned, by_arm, effect}
 use Rattle.ms_machine.specs.Control.{Done, Views, memory_at_start, perform}
 use Rattle.ms_machine.specs.Tests.{both_known}
 use Rattle.ms_machine.specs.Segments.{After, Choice, Over, forked, most_instructions, segment_from, segment_within}
@@ -157,16 +156,16 @@ abbrev branch_arms : Words → List Marked → ℕ → Doing Marked
 branch_arms x left = by_arm (Moves Next (here_with (marked x) left)) (Moves (Target 0) (here_with (marked x) left))
 
 -- a test of ints that no parameter entered
-known_plain : (rel : Rel) (p q : Bool) (v w : ℤ) → (p && q) ≡ true → both_known rel (cond p (Some v) None) (cond q (Some w) None) ≡ Some (Compares rel v w)
-known_plain rel true true v w plain = refl
-known_plain rel true false v w plain = absurd cc
-known_plain rel false q v w plain = absurd cc
+known_plain : (comparison : Comparison) (p q : Bool) (v w : ℤ) → (p && q) ≡ true → both_known comparison (cond p (Some v) None) (cond q (Some w) None) ≡ Some (Compares comparison v w)
+known_plain comparison true true v w plain = refl
+known_plain comparison true false v w plain = absurd cc
+known_plain comparison false q v w plain = absurd cc
 
 -- one of ints of which a parameter entered one
-known_not : (rel : Rel) (p q : Bool) (v w : ℤ) → (p && q) ≡ false → both_known rel (cond p (Some v) None) (cond q (Some w) None) ≡ None
-known_not rel true true v w entered = absurd cc
-known_not rel true false v w entered = refl
-known_not rel false q v w entered = refl
+known_not : (comparison : Comparison) (p q : Bool) (v w : ℤ) → (p && q) ≡ false → both_known comparison (cond p (Some v) None) (cond q (Some w) None) ≡ None
+known_not comparison true true v w entered = absurd cc
+known_not comparison true false v w entered = refl
+known_not comparison false q v w entered = refl
 
 -- where a branch of walked code leads, by whether it is taken
 record Led (method : Method) (x : Words) (offset far : ℕ) (branch : Instruction) (rest : List Instruction) (stack left : List Marked) (taken : Bool) : Type 0 where
@@ -191,14 +190,14 @@ led method x offset far branch rest stack left taken here walks leads depth_is =
     }
 
 -- no parameter entered the ints of the test: the run goes on within the segment
-pub follows_plain : (method : Method) (x : Words) (depth far : ℕ) (branch : Instruction) (rest : List Instruction) (stack left : List Marked) (choices : List ℕ) (rel : Rel) (a b : Marked)
+pub follows_plain : (method : Method) (x : Words) (depth far : ℕ) (branch : Instruction) (rest : List Instruction) (stack left : List Marked) (choices : List ℕ) (comparison : Comparison) (a b : Marked)
     → Follows method x depth (branch ∷ rest) stack choices
-    → effect marks (instr_of branch) (here_with (marked x) stack) ≡ Asks (Compares rel a b) (branch_arms x left)
+    → effect marks (instr_of branch) (here_with (marked x) stack) ≡ Asks (Compares comparison a b) (branch_arms x left)
     → distance_of branch ≡ Some far → length left ≡ depth_after (length stack) branch → (a.plain && b.plain) ≡ true
-    → Follows method x depth (cond (related rel a.word b.word) (code_from far (branch ∷ rest)) rest) left choices
-follows_plain method x depth far branch rest stack left choices rel a b f is leads depth_is plain =
+    → Follows method x depth (cond (related (relation comparison) a.word b.word) (code_from far (branch ∷ rest)) rest) left choices
+follows_plain method x depth far branch rest stack left choices comparison a b f is leads depth_is plain =
     let P = views_of method.instructions in
-    let taken = related rel a.word b.word in
+    let taken = related (relation comparison) a.word b.word in
     let n = f.budget - 1 in
     let one_less : f.budget ≡ suc n = omega (arith, f.room) in
     let to = led method x f.offset far branch rest stack left taken f.here f.walks leads depth_is in
@@ -206,56 +205,56 @@ follows_plain method x depth far branch rest stack left choices rel a b f is lea
     let arms : ℕ → Done Marked = λ arm. perform P (state_at (marked x) f.offset stack) (branch_arms x left arm) in
     let tested : after_at method x f.budget f.offset stack ≡ (go (arms (cond taken 1 0))).after =
     ap (λ (b : ℕ). after_at method x b f.offset stack) one_less
-    ∙ after_test marks method.instructions (marked x) f.offset n stack branch rest (Compares rel a b) (branch_arms x left) f.here is
-    ∙ ap (λ (t : Option (Test ℤ)). (forked (Compares rel a b) arms go t).after) (known_plain rel a.plain b.plain a.word b.word plain) in
+    ∙ after_test marks method.instructions (marked x) f.offset n stack branch rest (Compares comparison a b) (branch_arms x left) f.here is
+    ∙ ap (λ (t : Option (Test ℤ)). (forked (Compares comparison a b) arms go t).after) (known_plain comparison a.plain b.plain a.word b.word plain) in
     moved method x depth (branch ∷ rest) (cond taken (code_from far (branch ∷ rest)) rest) stack left choices f (offset_after taken f.offset far branch) n
     (tested ∙ ap (λ (d : Done Marked). (go d).after) to.ahead) to.here to.walks (omega (arith, f.room, to.shorter)) (omega (arith, f.short, to.shorter))
 
 -- a parameter entered the ints of the test: a choice is due
-choice_due : (method : Method) (x : Words) (depth : ℕ) (branch : Instruction) (rest : List Instruction) (stack left : List Marked) (choices : List ℕ) (rel : Rel) (a b : Marked)
+choice_due : (method : Method) (x : Words) (depth : ℕ) (branch : Instruction) (rest : List Instruction) (stack left : List Marked) (choices : List ℕ) (comparison : Comparison) (a b : Marked)
     → (f : Follows method x depth (branch ∷ rest) stack choices)
-    → effect marks (instr_of branch) (here_with (marked x) stack) ≡ Asks (Compares rel a b) (branch_arms x left) → (a.plain && b.plain) ≡ false
-    → after_at method x f.budget f.offset stack ≡ Choice (Compares rel a b) (λ arm. perform (views_of method.instructions) (state_at (marked x) f.offset stack) (branch_arms x left arm))
-choice_due method x depth branch rest stack left choices rel a b f is entered =
+    → effect marks (instr_of branch) (here_with (marked x) stack) ≡ Asks (Compares comparison a b) (branch_arms x left) → (a.plain && b.plain) ≡ false
+    → after_at method x f.budget f.offset stack ≡ Choice (Compares comparison a b) (λ arm. perform (views_of method.instructions) (state_at (marked x) f.offset stack) (branch_arms x left arm))
+choice_due method x depth branch rest stack left choices comparison a b f is entered =
     let P = views_of method.instructions in
     let n = f.budget - 1 in
     let one_less : f.budget ≡ suc n = omega (arith, f.room) in
     let go = segment_within marks P n in
     let arms : ℕ → Done Marked = λ arm. perform P (state_at (marked x) f.offset stack) (branch_arms x left arm) in
     ap (λ (b : ℕ). after_at method x b f.offset stack) one_less
-    ∙ after_test marks method.instructions (marked x) f.offset n stack branch rest (Compares rel a b) (branch_arms x left) f.here is
-    ∙ ap (λ (t : Option (Test ℤ)). (forked (Compares rel a b) arms go t).after) (known_not rel a.plain b.plain a.word b.word entered)
+    ∙ after_test marks method.instructions (marked x) f.offset n stack branch rest (Compares comparison a b) (branch_arms x left) f.here is
+    ∙ ap (λ (t : Option (Test ℤ)). (forked (Compares comparison a b) arms go t).after) (known_not comparison a.plain b.plain a.word b.word entered)
 
 -- as many choices are made as the depth allows
-pub run_cut : (method : Method) (x : Words) (depth : ℕ) (branch : Instruction) (rest : List Instruction) (stack left : List Marked) (choices : List ℕ) (rel : Rel) (a b : Marked)
+pub run_cut : (method : Method) (x : Words) (depth : ℕ) (branch : Instruction) (rest : List Instruction) (stack left : List Marked) (choices : List ℕ) (comparison : Comparison) (a b : Marked)
     → Follows method x depth (branch ∷ rest) stack choices
-    → effect marks (instr_of branch) (here_with (marked x) stack) ≡ Asks (Compares rel a b) (branch_arms x left) → (a.plain && b.plain) ≡ false → length choices ≡ depth
+    → effect marks (instr_of branch) (here_with (marked x) stack) ≡ Asks (Compares comparison a b) (branch_arms x left) → (a.plain && b.plain) ≡ false → length choices ≡ depth
     → IsRun method x depth choices Cut
-run_cut method x depth branch rest stack left choices rel a b f is entered full =
+run_cut method x depth branch rest stack left choices comparison a b f is entered full =
     let P = views_of method.instructions in
     let none : depth - length choices ≡ 0 = omega (arith, full) in
-    let due = choice_due method x depth branch rest stack left choices rel a b f is entered in
+    let due = choice_due method x depth branch rest stack left choices comparison a b f is entered in
     record {
       string = sym f.string ∙ ap (λ (n : ℕ). choices ++ string_after marks P mark_arm n (after_at method x f.budget f.offset stack)) none ∙ append-nil choices;
       end_is = sym f.end ∙ ap (λ (n : ℕ). end_after marks P mark_arm n (after_at method x f.budget f.offset stack)) none ∙ ap end_at due;
     }
 
 -- one choice more is made, and the next segment begins
-pub follows_choice : (method : Method) (x : Words) (depth far : ℕ) (branch : Instruction) (rest : List Instruction) (stack left : List Marked) (choices : List ℕ) (rel : Rel) (a b : Marked)
+pub follows_choice : (method : Method) (x : Words) (depth far : ℕ) (branch : Instruction) (rest : List Instruction) (stack left : List Marked) (choices : List ℕ) (comparison : Comparison) (a b : Marked)
     → Follows method x depth (branch ∷ rest) stack choices
-    → effect marks (instr_of branch) (here_with (marked x) stack) ≡ Asks (Compares rel a b) (branch_arms x left)
+    → effect marks (instr_of branch) (here_with (marked x) stack) ≡ Asks (Compares comparison a b) (branch_arms x left)
     → distance_of branch ≡ Some far → length left ≡ depth_after (length stack) branch → (a.plain && b.plain) ≡ false → length choices < depth
-    → Follows method x depth (cond (related rel a.word b.word) (code_from far (branch ∷ rest)) rest) left (choices ++ cond (related rel a.word b.word) 1 0 ∷ [])
+    → Follows method x depth (cond (related (relation comparison) a.word b.word) (code_from far (branch ∷ rest)) rest) left (choices ++ cond (related (relation comparison) a.word b.word) 1 0 ∷ [])
 unfolding most_instructions
-follows_choice method x depth far branch rest stack left choices rel a b f is leads depth_is entered room =
+follows_choice method x depth far branch rest stack left choices comparison a b f is leads depth_is entered room =
     let P = views_of method.instructions in
-    let taken = related rel a.word b.word in
+    let taken = related (relation comparison) a.word b.word in
     let arm : ℕ = cond taken 1 0 in
     let to = led method x f.offset far branch rest stack left taken f.here f.walks leads depth_is in
     let longer : length (choices ++ arm ∷ []) ≡ length choices + 1 = length-append choices (arm ∷ []) in
     let left_over = depth - length (choices ++ arm ∷ []) in
     let one_more : depth - length choices ≡ suc left_over = omega (arith, longer, room) in
-    let due = choice_due method x depth branch rest stack left choices rel a b f is entered in
+    let due = choice_due method x depth branch rest stack left choices comparison a b f is entered in
     let begins = standing (marked x) (offset_after taken f.offset far branch) left in
     record {
       offset = offset_after taken f.offset far branch;
@@ -281,24 +280,24 @@ follows_choice method x depth far branch rest stack left choices rel a b f is le
     }
 
 -- the run goes on in the code of the arm that was chosen
-pub follows_branch : (method : Method) (x : Words) (depth far : ℕ) (branch : Instruction) (rest : List Instruction) (stack left : List Marked) (choices more : List ℕ) (rel : Rel) (a b : Marked) (taken : Bool)
+pub follows_branch : (method : Method) (x : Words) (depth far : ℕ) (branch : Instruction) (rest : List Instruction) (stack left : List Marked) (choices more : List ℕ) (comparison : Comparison) (a b : Marked) (taken : Bool)
     → Follows method x depth (branch ∷ rest) stack choices
-    → effect marks (instr_of branch) (here_with (marked x) stack) ≡ Asks (Compares rel a b) (branch_arms x left)
-    → distance_of branch ≡ Some far → length left ≡ depth_after (length stack) branch → Chosen rel a b depth choices more (Some taken)
+    → effect marks (instr_of branch) (here_with (marked x) stack) ≡ Asks (Compares comparison a b) (branch_arms x left)
+    → distance_of branch ≡ Some far → length left ≡ depth_after (length stack) branch → Chosen comparison a b depth choices more (Some taken)
     → Follows method x depth (cond taken (code_from far (branch ∷ rest)) rest) left more
-follows_branch method x depth far branch rest stack left choices more rel a b taken f is leads depth_is chosen = by_mark (a.plain && b.plain) refl chosen.1
+follows_branch method x depth far branch rest stack left choices more comparison a b taken f is leads depth_is chosen = by_mark (a.plain && b.plain) refl chosen.1
   where
-    stands : (related rel a.word b.word ≡ taken) → (new : List ℕ) → (new ≡ more) → Follows method x depth (cond (related rel a.word b.word) (code_from far (branch ∷ rest)) rest) left new
+    stands : (related (relation comparison) a.word b.word ≡ taken) → (new : List ℕ) → (new ≡ more) → Follows method x depth (cond (related (relation comparison) a.word b.word) (code_from far (branch ∷ rest)) rest) left new
         → Follows method x depth (cond taken (code_from far (branch ∷ rest)) rest) left more
     stands same new grown g =
         subst (λ (l : List ℕ). Follows method x depth (cond taken (code_from far (branch ∷ rest)) rest) left l) grown
         (subst (λ (t : Bool). Follows method x depth (cond t (code_from far (branch ∷ rest)) rest) left new) same g)
 
     by_mark : (plain : Bool) → (a.plain && b.plain) ≡ plain → Made plain taken depth choices more → Follows method x depth (cond taken (code_from far (branch ∷ rest)) rest) left more
-    by_mark true plain made = stands (sym chosen.0) choices (sym made) (follows_plain method x depth far branch rest stack left choices rel a b f is leads depth_is plain)
+    by_mark true plain made = stands (sym chosen.0) choices (sym made) (follows_plain method x depth far branch rest stack left choices comparison a b f is leads depth_is plain)
     by_mark false plain made =
-        stands (sym chosen.0) (choices ++ cond (related rel a.word b.word) 1 0 ∷ []) (ap (λ (t : Bool). choices ++ cond t 1 0 ∷ []) (sym chosen.0) ∙ sym made.1)
-        (follows_choice method x depth far branch rest stack left choices rel a b f is leads depth_is plain made.0)
+        stands (sym chosen.0) (choices ++ cond (related (relation comparison) a.word b.word) 1 0 ∷ []) (ap (λ (t : Bool). choices ++ cond t 1 0 ∷ []) (sym chosen.0) ∙ sym made.1)
+        (follows_choice method x depth far branch rest stack left choices comparison a b f is leads depth_is plain made.0)
 
 -- the code of an arm is shorter
 pub arm_shorter : (method : Method) (x : Words) (depth far : ℕ) (branch : Instruction) (rest : List Instruction) (stack : List Marked) (choices : List ℕ) (taken : Bool)

@@ -1,10 +1,12 @@
--- How runs end, in the words of the code.
-use Rattle.std.specs.Prelude.{Option, Some, None}
+-- How runs of thin methods end, in the words of the code, and what choices they come to.
+use Rattle.std.specs.Prelude.{◌≡◌, Option, Some, None}
 use Rattle.ms_words.specs.declared.end.Ended.TheVariants as ended
 use Rattle.ms_words.specs.declared.end.PathEnd.{PathEnd}
 use Rattle.ms_words.specs.declared.end.PathEnd.TheVariants as path_end
 use Rattle.ms_machine.specs.Ints.{Int}
 use Rattle.ms_machine.specs.Effects.{Returned, ReturnedVoid, Threw, InitFailed, Missing, Runaway, Deep, SymLength, HeapFull, Stuck}
+use Rattle.ms_machine.specs.Tests.{arms_of}
+use Rattle.ms_machine.specs.Segments.{After, Choice, Over}
 use Rattle.ms_machine.specs.Runs.{RunEnd, Ended, Cut}
 
 -- The end of a run that returned a word or was cut. A run of a thin method has no other end, by the law
@@ -21,3 +23,8 @@ path_end_of (Ended SymLength) = None
 path_end_of (Ended HeapFull) = None
 path_end_of (Ended Stuck) = None
 path_end_of Cut = Some path_end.Cut
+
+-- a choice that comes then has two arms
+abbrev pub HasTwoArms : {V : Type 0} → After V → Type 0
+HasTwoArms (Choice test arms) = arms_of test ≡ 2
+HasTwoArms (Over end) = Unit {0}

@@ -1,13 +1,12 @@
 -- What the interpreter keeps and what an instruction leads to, as the machine with marks has it. These
 -- words are for private functions.
 use Rattle.std.specs.Prelude.{◌≡◌, ℕ, ◌<◌, Bool, true, false, cond, ◌&&◌, List, [], ◌∷◌, ◌++◌, length, map, Option, Some, None}
-use Rattle.ms_words.specs.declared.operator.Rel.{Rel}
 use Rattle.ms_words.specs.Relations.{related}
 use Rattle.ms_words.specs.Inputs.{Words}
 use Rattle.ms_classfile.specs.declared.instruction.Instruction.{Instruction}
 use Rattle.ms_classfile.specs.declared.instruction.Instruction.TheVariants.{IloadN, Iload, Iconst, Bipush, Iadd, Isub, If, IfIcmp, Ireturn}
 use Rattle.ms_machine.specs.Ints.{Marked}
-use Rattle.ms_machine.specs.Effects.{Value, Int, Here, Effect, Does, Asks, Moves, Returns, Next, Target, Compares, by_arm, relation}
+use Rattle.ms_machine.specs.Effects.{Comparison, Value, Int, Here, Effect, Does, Asks, Moves, Returns, Next, Target, Compares, by_arm, relation}
 use Rattle.ms_machine.specs.Control.{memory_at_start}
 use Rattle.ms_machine.specs.Runs.{given}
 use Rattle.ms_machine.specs.Laws.{mark_of}
@@ -31,7 +30,7 @@ here_with parameters stack = record { locals = locals_of parameters; stack = map
 abbrev pub effect_of : Turn → Here Marked → Effect Marked
 effect_of turns.Next here = Does (Moves Next here)
 effect_of (turns.Branch condition left right far) here =
-    Asks (Compares (relation (comparison_of condition)) left right) (by_arm (Moves Next here) (Moves (Target 0) here))
+    Asks (Compares (comparison_of condition) left right) (by_arm (Moves Next here) (Moves (Target 0) here))
 effect_of (turns.Return a) here = Does (Returns (Some (Int a)) here.memory)
 
 -- the instruction finds its operands on a stack of so many ints, and its local among so many
@@ -58,6 +57,6 @@ Made true taken depth old new = new ≡ old
 Made false taken depth old new = (length old < depth) × (new ≡ old ++ cond taken 1 0 ∷ [])
 
 -- whether the branch is taken, and the choices behind it; or that one more is due than the depth allows
-abbrev pub Chosen : Rel → Marked → Marked → ℕ → List ℕ → List ℕ → Option Bool → Type 0
-Chosen rel a b depth old new None = ((a.plain && b.plain) ≡ false) × (length old ≡ depth) × (new ≡ old)
-Chosen rel a b depth old new (Some taken) = (taken ≡ related rel a.word b.word) × Made (a.plain && b.plain) taken depth old new
+abbrev pub Chosen : Comparison → Marked → Marked → ℕ → List ℕ → List ℕ → Option Bool → Type 0
+Chosen comparison a b depth old new None = ((a.plain && b.plain) ≡ false) × (length old ≡ depth) × (new ≡ old)
+Chosen comparison a b depth old new (Some taken) = (taken ≡ related (relation comparison) a.word b.word) × Made (a.plain && b.plain) taken depth old new

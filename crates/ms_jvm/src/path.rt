@@ -83,7 +83,7 @@ fn choose(
 ) -> Result<Option<bool>, NoMemory>
     requires few { length choices.old ≤ depth }
     requires depth { depth ≤ 256 }
-    ensures { IfOk result (Chosen (relation (comparison_of condition)) left right depth choices.old choices.new) }
+    ensures { IfOk result (Chosen (comparison_of condition) left right depth choices.old choices.new) }
 {
     let taken = holds(relation_of(condition), left.word, right.word);
     if left.plain && right.plain {

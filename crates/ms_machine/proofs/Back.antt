@@ -61,7 +61,7 @@ module _ {V W : Type 0} (f : V → W) (g : W → V) (each : (a : V) → g (f a) 
   done_back (Ends end) = ap Ends (end_back end)
 
   test_back : (test : Test V) → map_test g (map_test f test) ≡ test
-  test_back (Compares rel a b) = λ i. Compares rel (each a i) (each b i)
+  test_back (Compares comparison a b) = λ i. Compares comparison (each a i) (each b i)
   test_back (Divides b) = ap Divides (each b)
   test_back (Selects a keys) = λ i. Selects (each a i) keys
   test_back (Indexes a len) = λ i. Indexes (each a i) len

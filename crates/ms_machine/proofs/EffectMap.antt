@@ -2,7 +2,7 @@
 use Rattle.std.proofs.Common.{◌≡◌, ℕ, zero, suc, pos, List, [], ◌∷◌, map, Option, Some, None, refl, sym, ap, ◌∙◌, slice_get}
 use Rattle.std.specs.Option.{option_map}
 use Rattle.ms_machine.specs.Ints.{Ints}
-use Rattle.ms_machine.specs.Effects.{Value, Int, Null, Array, Text, Throwable, Here, Doing, Effect, Does, Asks, Instr, Push, Load, Change, Combine, Compare, CompareZero, ReturnValue, Compares, as_int, by_arm, effect, jump, next, on_int, on_some, on_top, relation}
+use Rattle.ms_machine.specs.Effects.{Value, Int, Null, Array, Text, Throwable, Here, Doing, Effect, Does, Asks, Instr, Push, Load, Change, Combine, Compare, CompareZero, ReturnValue, Compares, as_int, by_arm, effect, jump, next, on_int, on_some, on_top}
 use Rattle.ms_machine.specs.Maps.{Respects, map_doing, map_effect, map_here, map_value, map_values}
 
 slice_get_map : {A B : Type 0} (f : A → B) (xs : List A) (i : ℕ) → slice_get (map f xs) i ≡ option_map f (slice_get xs i)
@@ -55,9 +55,9 @@ effect_map I J f r (Combine op) here =
     ap (λ c. Does (next (map_here f here) (Int c ∷ map_values f below))) (sym (r.binary op a b))))
 effect_map I J f r (Compare comparison) here =
     on_int_map f here.stack _ _ (λ b rest. on_int_map f rest _ _ (λ a below.
-    ap (Asks (Compares (relation comparison) (f a) (f b))) (λ i arm. by_arm_map f (next here below) (jump here below) arm i)))
+    ap (Asks (Compares comparison (f a) (f b))) (λ i arm. by_arm_map f (next here below) (jump here below) arm i)))
 effect_map I J f r (CompareZero comparison) here =
     on_int_map f here.stack _ _ (λ a below.
-    ap (λ c. Asks (Compares (relation comparison) (f a) c) (by_arm (next (map_here f here) (map_values f below)) (jump (map_here f here) (map_values f below)))) (sym (r.constant (pos 0)))
-    ∙ ap (Asks (Compares (relation comparison) (f a) (f (I.constant (pos 0))))) (λ i arm. by_arm_map f (next here below) (jump here below) arm i))
+    ap (λ c. Asks (Compares comparison (f a) c) (by_arm (next (map_here f here) (map_values f below)) (jump (map_here f here) (map_values f below)))) (sym (r.constant (pos 0)))
+    ∙ ap (Asks (Compares comparison (f a) (f (I.constant (pos 0))))) (λ i arm. by_arm_map f (next here below) (jump here below) arm i))
 effect_map I J f r ReturnValue here = on_top_map f here.stack _ _ (λ v below. refl)

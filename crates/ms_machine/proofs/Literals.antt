@@ -1,8 +1,6 @@
 -- An arm is taken exactly where its literals are true.
 use Rattle.std.proofs.Common.{◌≡◌, ℕ, zero, suc, ◌<◌, ◌↔◌, ℤ, Bool, true, false, not, cond, IsTrue, refl, sym, arith}
 use Rattle.std.specs.List.{AllByRecursion}
-use Rattle.ms_words.specs.declared.operator.Rel.{Rel}
-use Rattle.ms_words.specs.declared.operator.Rel.TheVariants.{Eq, Ne, Lt, Ge, Gt, Le, Uge}
 use Rattle.ms_words.specs.Relations.{int_eq, related}
 use Rattle.ms_words.specs.Inputs.{Words}
 use Rattle.ms_terms.specs.Terms.{Term, Constant, value}
@@ -11,36 +9,17 @@ use Rattle.ms_machine.specs.Tests.{arms_of, literals, map_test, opposite}
 use Rattle.ms_machine.specs.Runs.{IsMet, word_arm}
 use Rattle.ms_machine.specs.Laws.{int_of}
 
--- a relation of a branch: each of the seven but that of an index
-abbrev pub IsOrdinary : Rel → Type 0
-IsOrdinary Eq = Unit {0}
-IsOrdinary Ne = Unit {0}
-IsOrdinary Lt = Unit {0}
-IsOrdinary Ge = Unit {0}
-IsOrdinary Gt = Unit {0}
-IsOrdinary Le = Unit {0}
-IsOrdinary Uge = ⊥
-
-pub relation_ordinary : (comparison : Comparison) → IsOrdinary (relation comparison)
-relation_ordinary Equal = tt
-relation_ordinary NotEqual = tt
-relation_ordinary Less = tt
-relation_ordinary AtLeast = tt
-relation_ordinary Greater = tt
-relation_ordinary AtMost = tt
-
 twice_not : (b : Bool) → not (not b) ≡ b
 twice_not true = refl
 twice_not false = refl
 
-opposite_is : (rel : Rel) → IsOrdinary rel → (v w : ℤ) → related (opposite rel) v w ≡ not (related rel v w)
-opposite_is Eq h v w = refl
-opposite_is Ne h v w = sym (twice_not (int_eq v w))
-opposite_is Lt h v w = refl
-opposite_is Ge h v w = sym (twice_not _)
-opposite_is Gt h v w = refl
-opposite_is Le h v w = sym (twice_not _)
-opposite_is Uge h v w = absurd h
+opposite_is : (comparison : Comparison) (v w : ℤ) → related (relation (opposite comparison)) v w ≡ not (related (relation comparison) v w)
+opposite_is Equal v w = refl
+opposite_is NotEqual v w = sym (twice_not (int_eq v w))
+opposite_is Less v w = refl
+opposite_is AtLeast v w = sym (twice_not _)
+opposite_is Greater v w = refl
+opposite_is AtMost v w = sym (twice_not _)
 
 not_so : {A : Type 0} → IsTrue false → A
 not_so h = absurd (cc)
@@ -57,7 +36,7 @@ taken false = (λ h. absurd (omega arith), λ h. not_so h.0)
 
 -- a test that an instruction of today may ask
 abbrev pub IsOrdinaryTest : Test Term → Type 0
-IsOrdinaryTest (Compares rel a b) = IsOrdinary rel
+IsOrdinaryTest (Compares comparison a b) = Unit {0}
 IsOrdinaryTest (Divides b) = ⊥
 IsOrdinaryTest (Selects a keys) = ⊥
 IsOrdinaryTest (Indexes a len) = ⊥
@@ -67,9 +46,9 @@ abbrev pub arm_on : Words → Test Term → ℕ
 arm_on x test = word_arm (map_test (int_of x.words) test)
 
 pub arm_is_met : (x : Words) (test : Test Term) → IsOrdinaryTest test → (arm : ℕ) → arm < arms_of test → (◌≡◌ {A = ℕ} (arm_on x test) arm) ↔ AllByRecursion (IsMet x) (literals Constant test arm)
-arm_is_met x (Compares rel a b) h zero within = falls (related rel (value x.words a) (value x.words b)) (related (opposite rel) (value x.words a) (value x.words b)) (opposite_is rel h (value x.words a) (value x.words b))
-arm_is_met x (Compares rel a b) h (suc zero) within = taken (related rel (value x.words a) (value x.words b))
-arm_is_met x (Compares rel a b) h (suc (suc n)) within = absurd (omega arith)
+arm_is_met x (Compares comparison a b) h zero within = falls (related (relation comparison) (value x.words a) (value x.words b)) (related (relation (opposite comparison)) (value x.words a) (value x.words b)) (opposite_is comparison (value x.words a) (value x.words b))
+arm_is_met x (Compares comparison a b) h (suc zero) within = taken (related (relation comparison) (value x.words a) (value x.words b))
+arm_is_met x (Compares comparison a b) h (suc (suc n)) within = absurd (omega arith)
 arm_is_met x (Divides b) h arm within = absurd h
 arm_is_met x (Selects a keys) h arm within = absurd h
 arm_is_met x (Indexes a len) h arm within = absurd h
@@ -80,7 +59,7 @@ either_below false = omega arith
 
 -- the arm that an input takes is one of the test's
 pub arm_within : (x : Words) (test : Test Term) → IsOrdinaryTest test → arm_on x test < arms_of test
-arm_within x (Compares rel a b) h = either_below (related rel (value x.words a) (value x.words b))
+arm_within x (Compares comparison a b) h = either_below (related (relation comparison) (value x.words a) (value x.words b))
 arm_within x (Divides b) h = absurd h
 arm_within x (Selects a keys) h = absurd h
 arm_within x (Indexes a len) h = absurd h

@@ -1,22 +1,22 @@
 -- What the small methods do not reach, computed: bounds, frames, throwables, initialisers, other tests.
 use Rattle.std.proofs.Common.{◌≡◌, ℕ, zero, suc, List, [], ◌∷◌, pos, negsuc, Option, Some, None, refl}
 use Rattle.ms_words.specs.declared.item.Item.TheVariants.{Entry}
-use Rattle.ms_words.specs.declared.kind.Kind.TheVariants.{Z, I}
+use Rattle.ms_words.specs.declared.kind.Kind.TheVariants.{I}
 use Rattle.ms_words.specs.declared.operator.Rel.TheVariants.{Eq, Ne, Uge}
 use Rattle.ms_words.specs.declared.thrown.Thrown.TheVariants.{Throwable as AnyThrowable, Arithmetic, RuntimeException, NullPointer}
 use Rattle.ms_terms.specs.Terms.{Term, Constant, Param}
 use Rattle.ms_machine.specs.Ints.{ints}
-use Rattle.ms_machine.specs.Effects.{Push, Int, Throwable, Memory, InitFailed, Threw, Runaway, Deep, Stuck, Compares, Divides, Selects, Indexes}
+use Rattle.ms_machine.specs.Effects.{Push, Int, Throwable, Memory, InitFailed, Threw, Runaway, Deep, Stuck, Divides, Selects, Indexes}
 use Rattle.ms_machine.specs.Control.{Views, Handler, Begins, Foreign, Frame, Goes, Ends, enters, memory_at_start, most_frames, returns, start, throws}
 use Rattle.ms_machine.specs.Tests.{arm_of, literals}
-use Rattle.ms_machine.specs.Segments.{Choice, Over, segment_within}
-use Rattle.ms_machine.specs.Runs.{end_at, footprint, started}
+use Rattle.ms_machine.specs.Segments.{Over, segment_within}
+use Rattle.ms_machine.specs.Runs.{Cut, end_at, footprint, started}
 use Rattle.ms_machine.proofs.Example.{at, truths, two}
 
 -- BOUNDS
 
 -- iload_0 and ifeq are two instructions: with two the choice comes, with one a runaway
-bound_is_enough : end_at (segment_within ints truths.view 2 (started truths (two (pos 0) (pos 0)))).after ≡ end_at (Choice (Compares Eq (record { word = pos 0; shadow = Param 0 Z }) (record { word = pos 0; shadow = Constant (pos 0) })) (λ arm. Ends Stuck))
+bound_is_enough : end_at (segment_within ints truths.view 2 (started truths (two (pos 0) (pos 0)))).after ≡ Cut
 bound_is_enough = refl
 
 bound_is_passed : (segment_within ints truths.view 1 (started truths (two (pos 0) (pos 0)))).after ≡ Over Runaway

@@ -10,7 +10,7 @@ use Rattle.ms_machine.specs.Tests.{arm_of, arms_of, known_test, literals}
 use Rattle.ms_machine.specs.Segments.{After, Choice, Over, Segment, followed, forked, most_instructions, segment_from, segment_within}
 use Rattle.ms_machine.specs.Runs.{IsMet, after_arms, arms_at, done_after, next_literals, string, string_from, way, word_arm}
 use Rattle.ms_machine.specs.Laws.{HasArm, IsWhole, LawOfTheString, int_of, shadow_started}
-use Rattle.ms_machine.proofs.Literals.{IsOrdinaryTest, relation_ordinary, arm_is_met, arm_on, arm_within}
+use Rattle.ms_machine.proofs.Literals.{IsOrdinaryTest, arm_is_met, arm_on, arm_within}
 use Rattle.ms_machine.proofs.Runs.{started_values, string_map}
 use Rattle.ms_machine.proofs.Values.{values_respect}
 
@@ -44,8 +44,8 @@ effect_ordinary (Load local) here = on_some_ordinary (slice_get here.locals loca
     (λ held. on_some_ordinary held (λ v. Does (next here (v ∷ here.stack))) (λ v. tt))
 effect_ordinary (Change op) here = on_int_ordinary here.stack _ (λ a below. tt)
 effect_ordinary (Combine op) here = on_int_ordinary here.stack _ (λ b rest. on_int_ordinary rest _ (λ a below. tt))
-effect_ordinary (Compare comparison) here = on_int_ordinary here.stack _ (λ b rest. on_int_ordinary rest _ (λ a below. relation_ordinary comparison))
-effect_ordinary (CompareZero comparison) here = on_int_ordinary here.stack _ (λ a below. relation_ordinary comparison)
+effect_ordinary (Compare comparison) here = on_int_ordinary here.stack _ (λ b rest. on_int_ordinary rest _ (λ a below. tt))
+effect_ordinary (CompareZero comparison) here = on_int_ordinary here.stack _ (λ a below. tt)
 effect_ordinary ReturnValue here = on_top_ordinary here.stack _ (λ v below. tt)
 
 abbrev IsOrdinaryStep : Step Term → Type 0

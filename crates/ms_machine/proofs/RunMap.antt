@@ -14,7 +14,7 @@ use Rattle.ms_machine.proofs.ControlMap.{step_map}
 module _ {V W : Type 0} (I : Ints V) (J : Ints W) (f : V → W) (r : Respects I J f) where
   -- what is known of a test
   known_map : (test : Test V) → known_test J (map_test f test) ≡ known_test I test
-  known_map (Compares rel a b) = ap (λ o. both_known rel o (J.known (f b))) (r.known a) ∙ ap (both_known rel (I.known a)) (r.known b)
+  known_map (Compares comparison a b) = ap (λ o. both_known comparison o (J.known (f b))) (r.known a) ∙ ap (both_known comparison (I.known a)) (r.known b)
   known_map (Divides b) = ap (one_known Divides) (r.known b)
   known_map (Selects a keys) = ap (one_known (λ word. Selects word keys)) (r.known a)
   known_map (Indexes a len) = ap (one_known (λ word. Indexes word len)) (r.known a)
@@ -91,8 +91,8 @@ module _ {V W : Type 0} (I : Ints V) (J : Ints W) (f : V → W) (r : Respects I 
   ranged_map a false arm len = λ i. record { rel = Uge; a = f a; b = sym (r.constant (pos len)) i } ∷ []
 
   literals_map : (test : Test V) (arm : ℕ) → literals J.constant (map_test f test) arm ≡ map (map_literal f) (literals I.constant test arm)
-  literals_map (Compares rel a b) zero = refl
-  literals_map (Compares rel a b) (suc arm) = refl
+  literals_map (Compares comparison a b) zero = refl
+  literals_map (Compares comparison a b) (suc arm) = refl
   literals_map (Divides b) zero = λ i. record { rel = Ne; a = f b; b = sym (r.constant (pos 0)) i } ∷ []
   literals_map (Divides b) (suc arm) = λ i. record { rel = Eq; a = f b; b = sym (r.constant (pos 0)) i } ∷ []
   literals_map (Selects a keys) arm = selected_map a keys keys arm

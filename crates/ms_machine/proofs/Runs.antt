@@ -53,7 +53,7 @@ words_are_values P x whole =
 -- THE MARKS
 
 mark_alike : (test : Test Int) → mark_arm (map_test mark_of test) ≡ word_arm test
-mark_alike (Compares rel a b) = refl
+mark_alike (Compares comparison a b) = refl
 mark_alike (Divides b) = refl
 mark_alike (Selects a keys) = refl
 mark_alike (Indexes a len) = refl

@@ -111,10 +111,10 @@ pub data Doing (V : Type 0) : Type 0 where
   -- ends the run
   Stops : End V → Doing V
 
--- A test of ints: a relation of two, a divisor that is 0, the case of a switch, an index of an array of
+-- A test of ints: how two compare, a divisor that is 0, the case of a switch, an index of an array of
 -- some length.
 pub data Test (V : Type 0) : Type 0 where
-  Compares : Rel → V → V → Test V
+  Compares : Comparison → V → V → Test V
   Divides : V → Test V
   Selects : V → List ℤ → Test V
   Indexes : V → ℕ → Test V
@@ -168,6 +168,6 @@ effect I (Push word) here = Does (next here (Int (I.constant word) ∷ here.stac
 effect I (Load local) here = on_some (slice_get here.locals local) (λ held. on_some held (λ v. Does (next here (v ∷ here.stack))))
 effect I (Change op) here = on_int here.stack (λ a below. Does (next here (Int (I.unary op a) ∷ below)))
 effect I (Combine op) here = on_int here.stack (λ b rest. on_int rest (λ a below. Does (next here (Int (I.binary op a b) ∷ below))))
-effect I (Compare comparison) here = on_int here.stack (λ b rest. on_int rest (λ a below. Asks (Compares (relation comparison) a b) (by_arm (next here below) (jump here below))))
-effect I (CompareZero comparison) here = on_int here.stack (λ a below. Asks (Compares (relation comparison) a (I.constant (pos 0))) (by_arm (next here below) (jump here below)))
+effect I (Compare comparison) here = on_int here.stack (λ b rest. on_int rest (λ a below. Asks (Compares comparison a b) (by_arm (next here below) (jump here below))))
+effect I (CompareZero comparison) here = on_int here.stack (λ a below. Asks (Compares comparison a (I.constant (pos 0))) (by_arm (next here below) (jump here below)))
 effect I ReturnValue here = on_top here.stack (λ v below. Does (Returns (Some v) here.memory))

@@ -95,7 +95,7 @@ abbrev pub HasArm : {V : Type 0} → After V → ℕ → Type 0
 HasArm (Choice test arms) arm = arm < arms_of test
 HasArm (Over end) arm = ⊥
 
--- Where some input takes p, and arm is one of the choice after it: x takes p with that arm exactly where
+-- Where some words take p, and arm is one of the choice after it: x takes p with that arm exactly where
 -- it makes true all literals on the way through p and those of the arm. The way is that of each input that
 -- takes p, over the parameters.
 abbrev pub LawOfTheString : Program → Type 0

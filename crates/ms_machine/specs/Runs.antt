@@ -30,7 +30,7 @@ abbrev pub arms_at : {V : Type 0} → (Test V → ℕ) → (Done V → List ℕ)
 arms_at decide go (Choice test arms) = decide test ∷ go (arms (decide test))
 arms_at decide go (Over end) = []
 
--- the arms of the first choices, at most so many, where each test takes the arm that `decide` says
+-- the arms of the first choices, at most so many, where each choice takes the arm that `decide` says
 abbrev pub string_from : {V : Type 0} → Ints V → Views → (Test V → ℕ) → ℕ → Done V → List ℕ
 string_from I P decide zero done = []
 string_from I P decide (suc depth) done = arms_at decide (string_from I P decide depth) (segment_from I P done).after
@@ -44,7 +44,7 @@ abbrev pub end_at : {V : Type 0} → After V → RunEnd V
 end_at (Choice test arms) = Cut
 end_at (Over end) = Ended end
 
--- the end of the run to a depth, where each test takes the arm that `decide` says
+-- the end of the run to a depth, where each choice takes the arm that `decide` says
 abbrev pub end_from : {V : Type 0} → Ints V → Views → (Test V → ℕ) → ℕ → Done V → RunEnd V
 end_from I P decide depth done = end_at (segment_from I P (after_arms I P done (string_from I P decide depth done))).after
 

@@ -47,6 +47,8 @@ segment_from I P done = segment_within I P most_instructions done
 
 -- STEPS WITHIN A SEGMENT
 
+-- These steps have no bound: they go on where a segment is a runaway.
+
 -- a test whose ints are known takes its arm; at a choice the run stands
 abbrev pub past : {V : Type 0} → Done V → (ℕ → Done V) → (Done V → Done V) → Option (Test ℤ) → Done V
 past here arms go None = here

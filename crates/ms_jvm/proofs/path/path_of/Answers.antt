@@ -4,7 +4,7 @@ use Rattle.ms_words.specs.declared.end.Ended.TheVariants as ended
 use Rattle.ms_words.specs.declared.end.PathEnd.TheVariants as path_end
 use Rattle.ms_classfile.specs.Found.{view}
 use Rattle.ms_machine.specs.Ints.{Marked}
-use Rattle.ms_machine.specs.Effects.{relation, Returned}
+use Rattle.ms_machine.specs.Effects.{Returned}
 use Rattle.ms_machine.specs.Runs.{Ended, Cut}
 use Rattle.ms_jvm.specs.Programs.{comparison_of, program_of}
 use Rattle.ms_jvm.proofs.Following.{IsRun, arm_shorter, follows_branch, follows_move, follows_start, run_cut, run_returned}
@@ -39,7 +39,7 @@ cut : (c : goal.After-drop-stack-inside-in_default) → IsRun (view c.args.metho
 cut c =
     let due = rw c.in_default.is at c.in_ok-chosen-in-Branch.ensures in
     rw due.2 (run_cut (view c.args.method.now) c.args.x.now c.args.depth c.first-instruction.result.0 c.first-instruction.result.1.now c.loop-choices.stack c.execute.new.stack c.loop-choices.choices
-    (relation (comparison_of c.in-Branch.condition)) c.in-Branch.left c.in-Branch.right
+    (comparison_of c.in-Branch.condition) c.in-Branch.left c.in-Branch.right
     (rw c.first-instruction.ensures at c.loop-choices.invariant) (rw c.in-Branch.is at c.in_ok-turn.ensures.effect) due.0 due.1)
 
 pub returns-in_default-clause-choices : goal.returns-in_default-clause-choices
@@ -60,6 +60,6 @@ pub loop-choices-preserved : goal.loop-choices-preserved
 loop-choices-preserved c =
     rw (c.arm-rest.ensures, c.first-instruction.ensures)
     (follows_branch (view c.args.method.now) c.args.x.now c.args.depth c.in-Branch.far c.first-instruction.result.0 c.first-instruction.result.1.now c.loop-choices.stack c.execute.new.stack c.loop-choices.choices c.choose.new.choices
-    (relation (comparison_of c.in-Branch.condition)) c.in-Branch.left c.in-Branch.right c.in-Some.taken
+    (comparison_of c.in-Branch.condition) c.in-Branch.left c.in-Branch.right c.in-Some.taken
     (rw c.first-instruction.ensures at c.loop-choices.invariant) (rw c.in-Branch.is at c.in_ok-turn.ensures.effect) (rw c.in-Branch.is at c.in_ok-turn.ensures.leads) c.in_ok-turn.ensures.depth
     (rw c.in-Some.is at c.in_ok-chosen-in-Branch.ensures))
