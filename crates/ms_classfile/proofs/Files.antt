@@ -57,36 +57,34 @@ none_is : {X : Type 0} (found : Option X) → is_none found ≡ true → found �
 none_is None e = refl
 none_is (Some x) e = absurd cc
 
-some_and : {X : Type 0} (found : Option X) (P : X → Type 0) → IsSomeAnd found P → (x : X) × (found ≡ Some x) × P x
-some_and (Some x) P holds = (x, refl, holds)
-some_and None P holds = absurd holds
-
-record TakesClass (pool : List Entry) (start front : List ℕ) (after : Place) : Type 0 where
+record TakesClass (pool : List Entry) (start front : List ℕ) (found : List ℕ × Place) : Type 0 where
   pub access : ℕ
   pub this_class : ℕ
   pub super_class : ℕ
-  pub takes : Takes start (front ++ u2 access ++ u2 this_class ++ u2 super_class) after.left
+  pub takes : Takes start (front ++ u2 access ++ u2 this_class ++ u2 super_class) found.1.left
   pub access_fits : access < 2 ^ 16
   pub this_fits : this_class < 2 ^ 16
   pub super_fits : super_class < 2 ^ 16
+  pub name : class_name pool this_class ≡ Some found.0
   pub this : IsSomeAnd (class_name pool this_class) (λ name. thrown_named name ≡ None)
   pub super : class_name pool super_class ≡ Some (codes "java/lang/Object")
 
-class_takes : (pool : List Entry) (start front : List ℕ) (place after : Place) → Takes start front place.left → class_part_at pool place ≡ Some after → TakesClass pool start front after
+class_takes : (pool : List Entry) (start front : List ℕ) (place : Place) (x : List ℕ × Place) → Takes start front place.left → class_part_at pool place ≡ Some x → TakesClass pool start front x
 unfolding class_part_at
-class_takes pool start front place after takes found =
-    then_some (u2_at place) _ after found (λ access at_access more.
-    then_some (u2_at access.1) _ after more (λ this at_this more.
-    then_some (u2_at this.1) _ after more (λ super at_super more.
-    then_some (class_name pool this.0) _ after more (λ name at_name more.
-    then_some (class_name pool super.0) _ after more (λ parent at_parent last.
-    let right = provided_some (is_ordinary name && bytes_eq parent (codes "java/lang/Object")) (Some super.1) after last in
+class_takes pool start front place x takes found =
+    then_some (u2_at place) _ x found (λ access at_access more.
+    then_some (u2_at access.1) _ x more (λ this at_this more.
+    then_some (u2_at this.1) _ x more (λ super at_super more.
+    then_some (class_name pool this.0) _ x more (λ name at_name more.
+    then_some (class_name pool super.0) _ x more (λ parent at_parent last.
+    let made : List ℕ × Place = (name, super.1) in
+    let right = provided_some (is_ordinary name && bytes_eq parent (codes "java/lang/Object")) (Some made) x last in
     let both = and_parts (is_ordinary name) (bytes_eq parent (codes "java/lang/Object")) right.0 in
     let one = number_takes 2 width2 start front place access takes at_access in
     let two = number_takes 2 width2 start (front ++ u2 access.0) access.1 this one.0 at_this in
     let three = number_takes 2 width2 start (front ++ u2 access.0 ++ u2 this.0) this.1 super two.0 at_super in
     let object = (bytes_eq-Decides parent (codes "java/lang/Object")).0 both.1 in
-    subst (λ (y : Place). TakesClass pool start front y) (some_is super.1 after right.1) (record {
+    subst (λ (y : List ℕ × Place). TakesClass pool start front y) (some_is made x right.1) (record {
       access = access.0;
       this_class = this.0;
       super_class = super.0;
@@ -94,19 +92,20 @@ class_takes pool start front place after takes found =
       access_fits = one.1;
       this_fits = two.1;
       super_fits = three.1;
+      name = at_name;
       this = subst (λ (o : Option (List ℕ)). IsSomeAnd o (λ name. thrown_named name ≡ None)) (sym at_name) (none_is (thrown_named name) both.0);
       super = at_parent ∙ ap (λ (t : List ℕ). Some t) object;
     }))))))
 
-class_reaches : (file : ThinFile) (place : Place) (rest : List ℕ) → IsThinClass file → place.left ≡ u2 file.access ++ (u2 file.this_class ++ (u2 file.super_class ++ rest)) → (after : Place) × (class_part_at file.pool place ≡ Some after) × (after.left ≡ rest)
+class_reaches : (file : ThinFile) (name : List ℕ) (place : Place) (rest : List ℕ) → IsThinClass file → class_name file.pool file.this_class ≡ Some name → place.left ≡ u2 file.access ++ (u2 file.this_class ++ (u2 file.super_class ++ rest)) → (after : Place) × (class_part_at file.pool place ≡ Some (name, after)) × (after.left ≡ rest)
 unfolding class_part_at
-class_reaches file place rest class spelled =
+class_reaches file name place rest class named spelled =
     let access = number_reaches 2 file.access place (u2 file.this_class ++ (u2 file.super_class ++ rest)) class.access spelled in
     let this = number_reaches 2 file.this_class access.after (u2 file.super_class ++ rest) class.this_number access.left in
     let super = number_reaches 2 file.super_class this.after rest class.super_number this.left in
-    let name = some_and (class_name file.pool file.this_class) (λ name. thrown_named name ≡ None) class.this in
-    let ordinary : is_ordinary name.0 ≡ true = ap is_none name.2 in
-    (super.after, rw (access.found, this.found, super.found, name.1, class.super, ordinary) refl, super.left)
+    let unthrown : thrown_named name ≡ None = subst (λ (o : Option (List ℕ)). IsSomeAnd o (λ name. thrown_named name ≡ None)) named class.this in
+    let ordinary : is_ordinary name ≡ true = ap is_none unthrown in
+    (super.after, rw (access.found, this.found, super.found, named, class.super, ordinary) refl, super.left)
 
 -- ---- no interfaces, no fields, one method
 
@@ -144,8 +143,8 @@ file_takes bytes method fits found =
     then_some (header_at (beginning bytes)) _ method found (λ start at_start more.
     then_some (pool_at start) _ method more (λ pool at_pool more.
     then_some (class_part_at pool.0 pool.1) _ method more (λ class at_class more.
-    then_some (counts_at class) _ method more (λ counts at_counts more.
-    then_some (method_at pool.0 counts) _ method more (λ read at_method more.
+    then_some (counts_at class.1) _ method more (λ counts at_counts more.
+    then_some (method_at pool.0 class.0 counts) _ method more (λ read at_method more.
     then_some (attributes_at pool.0 read.1) _ method more (λ attributes at_attributes last.
     let ended = provided_some (length attributes.1.left == 0) (Some read.0) method last in
     let one = header_takes bytes [] (beginning bytes) start (record { parts = refl; fits = fits }) at_start in
@@ -153,8 +152,8 @@ file_takes bytes method fits found =
     let two = pool_takes bytes header start pool one.takes at_pool in
     let three = class_takes pool.0 bytes (header ++ spelled_pool pool.0) pool.1 class two.0 at_class in
     let class_text : List ℕ = header ++ spelled_pool pool.0 ++ u2 three.access ++ u2 three.this_class ++ u2 three.super_class in
-    let four = counts_takes bytes class_text class counts three.takes at_counts in
-    let five = method_takes pool.0 bytes (class_text ++ u2 0 ++ u2 0 ++ u2 1) counts read four at_method in
+    let four = counts_takes bytes class_text class.1 counts three.takes at_counts in
+    let five = method_takes pool.0 class.0 bytes (class_text ++ u2 0 ++ u2 0 ++ u2 1) counts read four at_method in
     let method_text : List ℕ = class_text ++ u2 0 ++ u2 0 ++ u2 1 ++ u2 five.access ++ u2 five.name ++ u2 five.descriptor ++ spelled_attributes five.attributes in
     let six = attributes_takes pool.0 bytes method_text read.1 attributes five.takes at_attributes in
     let file : ThinFile = record { minor = one.minor; major = one.major; pool = pool.0; access = three.access; this_class = three.this_class; super_class = three.super_class; method_access = five.access; method_name = five.name; method_descriptor = five.descriptor; method_attributes = five.attributes; code = five.code; attributes = attributes.0 } in
@@ -176,7 +175,7 @@ file_takes bytes method fits found =
         attributes = six.1.0.fit;
         named = six.1.0.named;
       };
-      has_method = subst (λ (m : Method). HasThinMethod file m) (some_is read.0 method ended.1) (five.has one.minor one.major three.access three.this_class three.super_class attributes.0);
+      has_method = subst (λ (m : Method). HasThinMethod file m) (some_is read.0 method ended.1) (five.has one.minor one.major three.access three.this_class three.super_class attributes.0 three.name);
     }))))))
 
 regrouped : (first minor major pool access this super interfaces fields count kind name descriptor inner outer : List ℕ)
@@ -198,7 +197,7 @@ file_reaches bytes method thin =
     (u2 file.method_access) (u2 file.method_name) (u2 file.method_descriptor) (spelled_attributes file.method_attributes) (spelled_attributes file.attributes) in
     let start = header_reaches file.minor file.major (beginning bytes) (spelled_pool file.pool ++ named) class.minor class.oldest class.newest (thin.spelled ∙ text) in
     let pool = pool_reaches file.pool start.0 named (record { entries = class.entries; each = class.each; links = class.links }) start.2 in
-    let parent = class_reaches file pool.after counted class pool.left in
+    let parent = class_reaches file method.class pool.after counted class thin.has_method.class pool.left in
     let counts = counts_reach parent.0 methods parent.2 in
     let read = method_reaches file method counts.0 last thin.has_method counts.2 in
     let attributes = attributes_reaches file.pool file.attributes read.after [] (record { fit = class.attributes; named = class.named }) read.left in

@@ -4,7 +4,7 @@ use Rattle.std.specs.List.{AllByRecursion}
 use Rattle.std.proofs.lemmas.Bool.{cond_both}
 use Rattle.ms_pool.specs.Places.{Place}
 use Rattle.ms_pool.specs.Numbers.{width2}
-use Rattle.ms_classfile.specs.ThinFile.{Entry, Attribute, Code, ThinFile, Method, HasThinMethod, u2, utf8, is_named, is_plain_static, spelled_attributes, spelled_code}
+use Rattle.ms_classfile.specs.ThinFile.{Entry, Attribute, Code, ThinFile, Method, HasThinMethod, u2, utf8, class_name, is_named, is_plain_static, spelled_attributes, spelled_code}
 use Rattle.ms_classfile.specs.Reading.{provided, only, signature_of, u2_at, attributes_at, code_of, method_at}
 use Rattle.ms_classfile.proofs.Steps.{then_some, provided_some, some_is}
 use Rattle.ms_classfile.proofs.Only.{only_is}
@@ -33,18 +33,18 @@ only_reaches (x ∷ y ∷ more) content e = absurd cc
 -- ---- the method
 
 -- the method's part of a file, whatever the other parts are
-pub record TakesMethod (pool : List Entry) (start front : List ℕ) (found : Method × Place) : Type 0 where
+pub record TakesMethod (pool : List Entry) (class start front : List ℕ) (found : Method × Place) : Type 0 where
   pub access : ℕ
   pub name : ℕ
   pub descriptor : ℕ
   pub attributes : List Attribute
   pub code : Code
   pub takes : Takes start (front ++ u2 access ++ u2 name ++ u2 descriptor ++ spelled_attributes attributes) found.1.left
-  pub has : (minor major class_access this_class super_class : ℕ) (class_attributes : List Attribute) → HasThinMethod (record { minor = minor; major = major; pool = pool; access = class_access; this_class = this_class; super_class = super_class; method_access = access; method_name = name; method_descriptor = descriptor; method_attributes = attributes; code = code; attributes = class_attributes }) found.0
+  pub has : (minor major class_access this_class super_class : ℕ) (class_attributes : List Attribute) → class_name pool this_class ≡ Some class → HasThinMethod (record { minor = minor; major = major; pool = pool; access = class_access; this_class = this_class; super_class = super_class; method_access = access; method_name = name; method_descriptor = descriptor; method_attributes = attributes; code = code; attributes = class_attributes }) found.0
 
-pub method_takes : (pool : List Entry) (start front : List ℕ) (place : Place) (x : Method × Place) → Takes start front place.left → method_at pool place ≡ Some x → TakesMethod pool start front x
+pub method_takes : (pool : List Entry) (class start front : List ℕ) (place : Place) (x : Method × Place) → Takes start front place.left → method_at pool class place ≡ Some x → TakesMethod pool class start front x
 unfolding method_at
-method_takes pool start front place x takes found =
+method_takes pool class start front place x takes found =
     then_some (u2_at place) _ x found (λ access at_access more.
     then_some (u2_at access.1) _ x more (λ number at_number more.
     then_some (u2_at number.1) _ x more (λ descriptor at_descriptor more.
@@ -63,20 +63,21 @@ method_takes pool start front place x takes found =
     let named = only_is (filter (is_named pool (codes "Code")) attributes.0) attribute at_attribute in
     let kept : AllByRecursion (IsFound pool) (attribute ∷ []) = subst (λ (xs : List Attribute). AllByRecursion (IsFound pool) xs) named (each_kept (is_named pool (codes "Code")) (IsFound pool) attributes.0 four.1.1) in
     let holds = code_takes pool (length signature.0) attribute.content code kept.0.bytes at_code in
-    let made : Method × Place = (record { name = name; descriptor = text; kinds = signature.0; result = signature.1; max_stack = code.0; instructions = code.1 }, attributes.1) in
+    let made : Method × Place = (record { class = class; name = name; descriptor = text; kinds = signature.0; result = signature.1; max_stack = code.0; instructions = code.1 }, attributes.1) in
     let one_code : map (λ (attribute : Attribute). attribute.content) (filter (is_named pool (codes "Code")) attributes.0) ≡ spelled_code holds.code ∷ [] = ap (λ (xs : List Attribute). map (λ attribute. attribute.content) xs) named ∙ ap (λ (c : List ℕ). c ∷ []) holds.spelled in
-    subst (λ (y : Method × Place). TakesMethod pool start front y) (some_is made x last) (record {
+    subst (λ (y : Method × Place). TakesMethod pool class start front y) (some_is made x last) (record {
       access = access.0;
       name = number.0;
       descriptor = descriptor.0;
       attributes = attributes.0;
       code = holds.code;
       takes = four.0;
-      has = λ minor major class_access this_class super_class class_attributes. record {
+      has = λ minor major class_access this_class super_class class_attributes class_is. record {
         access = one.1;
         name_number = two.1;
         descriptor_number = three.1;
         static = static.0;
+        class = class_is;
         name = at_name;
         descriptor = at_text;
         signature = of_kinds.spelled;
@@ -93,7 +94,7 @@ method_takes pool start front place x takes found =
     }))))))))))
 
 pub method_reaches : (file : ThinFile) (method : Method) (place : Place) (rest : List ℕ) → HasThinMethod file method
-    → place.left ≡ u2 file.method_access ++ (u2 file.method_name ++ (u2 file.method_descriptor ++ (spelled_attributes file.method_attributes ++ rest))) → Reaches (method_at file.pool place) method rest
+    → place.left ≡ u2 file.method_access ++ (u2 file.method_name ++ (u2 file.method_descriptor ++ (spelled_attributes file.method_attributes ++ rest))) → Reaches (method_at file.pool method.class place) method rest
 unfolding method_at
 method_reaches file method place rest has spelled =
     let access = number_reaches 2 file.method_access place (u2 file.method_name ++ (u2 file.method_descriptor ++ (spelled_attributes file.method_attributes ++ rest))) has.access spelled in

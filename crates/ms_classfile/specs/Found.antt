@@ -20,7 +20,7 @@ abbrev pub attribute_view : RawAttribute → Attribute
 attribute_view attribute = record { name = attribute.name; content = attribute.content.now }
 
 abbrev pub view : ThinMethod → Method
-view method = record { name = method.name.now; descriptor = method.descriptor.now; kinds = method.kinds; result = method.result; max_stack = method.max_stack; instructions = method.instructions.items }
+view method = record { class = method.class.now; name = method.name.now; descriptor = method.descriptor.now; kinds = method.kinds; result = method.result; max_stack = method.max_stack; instructions = method.instructions.items }
 
 -- nothing is read, unless memory ran out
 abbrev pub Fails : {Y : Type 0} → Failure → Option Y → Type 0

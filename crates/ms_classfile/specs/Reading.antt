@@ -210,8 +210,9 @@ signature_of [] = None
 signature_of (byte ∷ text) =
     provided (byte == 40) (parameters_of 8 text) >>= λ parameters. option_map (λ result. (parameters.0, result)) (result_of parameters.1)
 
-unfoldable pub method_at : List Entry → Place → Option (Method × Place)
-method_at pool place = do
+-- the method of the class of this name
+unfoldable pub method_at : List Entry → List ℕ → Place → Option (Method × Place)
+method_at pool class place = do
   access ← u2_at place
   name_number ← u2_at access.1
   descriptor_number ← u2_at name_number.1
@@ -221,7 +222,7 @@ method_at pool place = do
   signature ← signature_of text
   attribute ← only (filter (is_named pool (codes "Code")) attributes.0)
   code ← code_of pool (length signature.0) attribute.content
-  Some (record { name = name; descriptor = text; kinds = signature.0; result = signature.1; max_stack = code.0; instructions = code.1 }, attributes.1)
+  Some (record { class = class; name = name; descriptor = text; kinds = signature.0; result = signature.1; max_stack = code.0; instructions = code.1 }, attributes.1)
 
 -- magic and version
 unfoldable pub header_at : Place → Option Place
@@ -235,15 +236,15 @@ header_at place = do
 abbrev pub is_ordinary : List ℕ → Bool
 is_ordinary name = is_none (thrown_named name)
 
--- the class's flags, its name and its parent
-unfoldable pub class_part_at : List Entry → Place → Option Place
+-- the class's flags, its name and its parent; the name is given
+unfoldable pub class_part_at : List Entry → Place → Option (List ℕ × Place)
 class_part_at pool place = do
   access ← u2_at place
   this_class ← u2_at access.1
   super_class ← u2_at this_class.1
   name ← class_name pool this_class.0
   parent ← class_name pool super_class.0
-  provided (is_ordinary name && bytes_eq parent (codes "java/lang/Object")) (Some super_class.1)
+  provided (is_ordinary name && bytes_eq parent (codes "java/lang/Object")) (Some (name, super_class.1))
 
 -- no interfaces, no fields, one method
 unfoldable pub counts_at : Place → Option Place
@@ -259,7 +260,7 @@ thin_method bytes = do
   start ← header_at (beginning bytes)
   pool ← pool_at start
   class ← class_part_at pool.0 pool.1
-  counts ← counts_at class
-  method ← method_at pool.0 counts
+  counts ← counts_at class.1
+  method ← method_at pool.0 class.0 counts
   attributes ← attributes_at pool.0 method.1
   provided (length attributes.1.left == 0) (Some method.0)

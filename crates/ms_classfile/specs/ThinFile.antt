@@ -170,10 +170,11 @@ abbrev pub EntryFits : Entry → Type 0
 EntryFits (Utf8 text) = length text < 2 ^ 16
 EntryFits (Class name) = name < 2 ^ 16
 
--- What is said of a thin method: its name, its descriptor, the kinds of its parameters and of its result,
--- the most words that its stack may have by the file's declaration (max_stack; JVMS SE 8, section 4.7.3),
--- its instructions.
+-- What is said of a thin method: the name of its class, its name, its descriptor, the kinds of its
+-- parameters and of its result, the most words that its stack may have by the file's declaration
+-- (max_stack; JVMS SE 8, section 4.7.3), its instructions.
 pub record Method : Type 0 where
+  pub class : List ℕ
   pub name : List ℕ
   pub descriptor : List ℕ
   pub kinds : List Kind
@@ -218,6 +219,7 @@ pub record HasThinMethod (file : ThinFile) (method : Method) : Type 0 where
   pub name_number : file.method_name < 2 ^ 16
   pub descriptor_number : file.method_descriptor < 2 ^ 16
   pub static : IsTrue (is_plain_static file.method_access)
+  pub class : class_name file.pool file.this_class ≡ Some method.class
   pub name : utf8 file.pool file.method_name ≡ Some method.name
   pub descriptor : utf8 file.pool file.method_descriptor ≡ Some method.descriptor
   pub signature : method.descriptor ≡ descriptor_of method.kinds method.result

@@ -34,9 +34,9 @@ fn file(alloc: Global, bytes: &[u8]) -> Result<ThinMethod<'_>, Failure>
     let mut cursor = Cursor::new(bytes);
     header(&mut cursor)?;
     let pool = pool(alloc, &mut cursor)?;
-    class_part(&pool, &mut cursor)?;
+    let class = class_part(&pool, &mut cursor)?;
     counts(&mut cursor)?;
-    let method = method(alloc, &pool, &mut cursor)?;
+    let method = method(alloc, &pool, class, &mut cursor)?;
     let _attributes = attributes(alloc, &pool, &mut cursor)?;
     if !cursor.is_at_end() {
         return Err(Failure::NotThin);
@@ -45,7 +45,8 @@ fn file(alloc: Global, bytes: &[u8]) -> Result<ThinMethod<'_>, Failure>
 }
 
 /// The method of the thin file that these bytes are, or `None` where they are none (JVMS SE 8, chapter 4).
-/// The name and the descriptor are lent from the bytes. It fails for want of memory alone.
+/// The name of its class, its name and its descriptor are lent from the bytes. It fails for want of memory
+/// alone.
 pub fn read_thin(alloc: Global, bytes: &[u8]) -> Result<Option<ThinMethod<'_>>, NoMemory>
     // The bytes are a thin file with the method that is found; where none is found, they are no thin file.
     ensures thin { IfOk result (λ found. IfSome found (λ method. IsThinFile bytes.now (view method))) }

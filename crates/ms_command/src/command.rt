@@ -4,9 +4,9 @@ ghost use Rattle.std.specs.Option.{option_map};
 ghost use Rattle.ms_words.specs.Inputs.{is_of};
 ghost use Rattle.ms_words.specs.declared.kind.Kind.TheVariants.{I};
 ghost use Rattle.ms_command.specs.Numerals.{number_values};
-ghost use Rattle.ms_command.specs.Commands.{Refuses, command_of, command_of_tokens, once_of};
+ghost use Rattle.ms_command.specs.Commands.{IsInRange, Refuses, alone, class_of, command_of, command_of_tokens, depth_of, entry_of, explore_of, once_of};
 
-use crate::number::number;
+use crate::number::{number, numeral};
 use crate::tokens::{cut, is_plain_line};
 use crate::words::Words;
 use ms_words::{Name, NoMemory};
@@ -25,7 +25,34 @@ pub enum Command {
         desc: Name,
         words: Words,
     },
+    /// Adds the class in the file of this name to the program.
+    Class {
+        file: Name,
+    },
+    /// Makes the method of this name and descriptor, of the class of this name, the entry.
+    Entry {
+        class: Name,
+        name: Name,
+        desc: Name,
+    },
+    /// Sets the depth at which paths are cut, from 0 to 256.
+    Depth(u16),
+    /// Explores with at most so many asks, from 1 to 1,000,000.
+    Explore(u32),
+    /// Reports what was explored.
+    Report,
+    /// Ends the session.
+    Quit,
 }
+
+/// The greatest depth of a command.
+const MOST_DEPTH: u64 = 256;
+
+/// The least number of asks of a command.
+const FEWEST_ASKS: u64 = 1;
+
+/// The greatest number of asks of a command.
+const MOST_ASKS: u64 = 1_000_000;
 
 /// Why a line is no command.
 #[derive(Clone, Copy, Debug, PartialEq, Eq, Drop, Error)]
@@ -36,7 +63,8 @@ pub enum CommandRefusal {
     /// No form of a command fits the line.
     #[error("no form of a command fits the line")]
     Command,
-    /// A form fits the line, and a number is outside its range: a word has 32 bits.
+    /// A form fits the line, and a number is outside its range: a word has 32 bits, a depth is from 0 to
+    /// 256, and a number of asks is from 1 to 1,000,000.
     #[error("a number is outside its range")]
     Range,
     /// Memory ran out.
@@ -59,7 +87,8 @@ impl From<NoMemory> for CommandRefusal {
 /// outside 0x20 to 0x7E; else as `Command` exactly where no form of a command fits; else as `Range`
 /// exactly where a number is outside its range.
 pub fn read_command(alloc: Global, line: &[u8]) -> Result<Command, CommandRefusal>
-    ensures { MatchResult result (λ command. command_of line.now ≡ Ok command) (λ refusal. Refuses refusal (command_of line.now)) }
+    ensures command { MatchResult result (λ command. command_of line.now ≡ Ok command) (λ refusal. Refuses refusal (command_of line.now)) }
+    ensures range { IfOk result IsInRange }
 {
     if !is_plain_line(line) {
         return Err(CommandRefusal::Line);
@@ -71,10 +100,26 @@ pub fn read_command(alloc: Global, line: &[u8]) -> Result<Command, CommandRefusa
 fn command_from(alloc: Global, tokens: &[&[u8]]) -> Result<Command, CommandRefusal>
     ensures { MatchResult result (λ command. command_of_tokens (map (λ token. token.now) tokens.now) ≡ Ok command) (λ refusal. Refuses refusal (command_of_tokens (map (λ token. token.now) tokens.now))) }
 {
-    match tokens {
-        [] => Ok(Command::Nothing),
-        [b"once", arguments @ ..] => once(alloc, arguments),
-        _ => Err(CommandRefusal::Command),
+    let [word, arguments @ ..] = tokens else {
+        return Ok(Command::Nothing);
+    };
+    let word = *word;
+    if word == b"once".as_slice() {
+        once(alloc, arguments)
+    } else if word == b"class".as_slice() {
+        class(alloc, arguments)
+    } else if word == b"entry".as_slice() {
+        entry(alloc, arguments)
+    } else if word == b"depth".as_slice() {
+        depth(arguments)
+    } else if word == b"explore".as_slice() {
+        explore(arguments)
+    } else if word == b"report".as_slice() {
+        report(arguments)
+    } else if word == b"quit".as_slice() {
+        quit(arguments)
+    } else {
+        Err(CommandRefusal::Command)
     }
 }
 
@@ -96,6 +141,74 @@ fn once(alloc: Global, arguments: &[&[u8]]) -> Result<Command, CommandRefusal>
         desc: Name::of(alloc, desc)?,
         words,
     })
+}
+
+fn class(alloc: Global, arguments: &[&[u8]]) -> Result<Command, CommandRefusal>
+    ensures { MatchResult result (λ command. class_of (map (λ token. token.now) arguments.now) ≡ Ok command) (λ refusal. Refuses refusal (class_of (map (λ token. token.now) arguments.now))) }
+{
+    let [file] = arguments else {
+        return Err(CommandRefusal::Command);
+    };
+    Ok(Command::Class {
+        file: Name::of(alloc, file)?,
+    })
+}
+
+fn entry(alloc: Global, arguments: &[&[u8]]) -> Result<Command, CommandRefusal>
+    ensures { MatchResult result (λ command. entry_of (map (λ token. token.now) arguments.now) ≡ Ok command) (λ refusal. Refuses refusal (entry_of (map (λ token. token.now) arguments.now))) }
+{
+    let [class, name, desc] = arguments else {
+        return Err(CommandRefusal::Command);
+    };
+    Ok(Command::Entry {
+        class: Name::of(alloc, class)?,
+        name: Name::of(alloc, name)?,
+        desc: Name::of(alloc, desc)?,
+    })
+}
+
+fn depth(arguments: &[&[u8]]) -> Result<Command, CommandRefusal>
+    ensures { MatchResult result (λ command. depth_of (map (λ token. token.now) arguments.now) ≡ Ok command) (λ refusal. Refuses refusal (depth_of (map (λ token. token.now) arguments.now))) }
+{
+    let [depth] = arguments else {
+        return Err(CommandRefusal::Command);
+    };
+    match numeral(depth) {
+        None => Err(CommandRefusal::Command),
+        Some(depth) if depth <= MOST_DEPTH => Ok(Command::Depth(depth as u16)),
+        Some(_) => Err(CommandRefusal::Range),
+    }
+}
+
+fn explore(arguments: &[&[u8]]) -> Result<Command, CommandRefusal>
+    ensures { MatchResult result (λ command. explore_of (map (λ token. token.now) arguments.now) ≡ Ok command) (λ refusal. Refuses refusal (explore_of (map (λ token. token.now) arguments.now))) }
+{
+    let [asks] = arguments else {
+        return Err(CommandRefusal::Command);
+    };
+    match numeral(asks) {
+        None => Err(CommandRefusal::Command),
+        Some(asks) if FEWEST_ASKS <= asks && asks <= MOST_ASKS => Ok(Command::Explore(asks as u32)),
+        Some(_) => Err(CommandRefusal::Range),
+    }
+}
+
+fn report(arguments: &[&[u8]]) -> Result<Command, CommandRefusal>
+    ensures { MatchResult result (λ command. alone Command.Report (map (λ token. token.now) arguments.now) ≡ Ok command) (λ refusal. Refuses refusal (alone Command.Report (map (λ token. token.now) arguments.now))) }
+{
+    if !arguments.is_empty() {
+        return Err(CommandRefusal::Command);
+    }
+    Ok(Command::Report)
+}
+
+fn quit(arguments: &[&[u8]]) -> Result<Command, CommandRefusal>
+    ensures { MatchResult result (λ command. alone Command.Quit (map (λ token. token.now) arguments.now) ≡ Ok command) (λ refusal. Refuses refusal (alone Command.Quit (map (λ token. token.now) arguments.now))) }
+{
+    if !arguments.is_empty() {
+        return Err(CommandRefusal::Command);
+    }
+    Ok(Command::Quit)
 }
 
 /// The numbers that tokens stand for, or `None` where one stands for none.

@@ -1,4 +1,4 @@
-ghost use Rattle.std.specs.Prelude.{◌≡◌, ◌≤◌, length, pos, Some, None, if◌then◌else◌};
+ghost use Rattle.std.specs.Prelude.{◌≡◌, ◌≤◌, ◌<◌, ◌^◌, IfSome, length, pos, Some, None, if◌then◌else◌};
 ghost use Rattle.std.specs.Char.{is_ascii_digit};
 ghost use Rattle.std.specs.List.{list_all};
 ghost use Rattle.std.specs.Option.{option_map};
@@ -14,14 +14,25 @@ pub fn number(token: &[u8]) -> Option<i64>
 {
     match token {
         [] => None,
-        [b'-', digits @ ..] => numeral(digits).map(|n| -n),
-        _ => numeral(token),
+        [b'-', digits @ ..] => signed(digits).map(|n| -n),
+        _ => signed(token),
+    }
+}
+
+/// The number that one to ten digits stand for, as a signed number.
+fn signed(text: &[u8]) -> Option<i64>
+    ensures { result ≡ option_map pos (numeral_value text.now) }
+{
+    match numeral(text) {
+        None => None,
+        Some(value) => Some(value as i64),
     }
 }
 
 /// The number that one to ten digits stand for.
-fn numeral(text: &[u8]) -> Option<i64>
-    ensures { result ≡ option_map pos (numeral_value text.now) }
+pub fn numeral(text: &[u8]) -> Option<u64>
+    ensures value { result ≡ numeral_value text.now }
+    ensures small { IfSome result (λ value. value < 10 ^ 10) }
 {
     if text.is_empty() || text.len() > MOST_DIGITS {
         return None;
@@ -30,9 +41,10 @@ fn numeral(text: &[u8]) -> Option<i64>
 }
 
 /// The number that at most ten bytes stand for, where each is a digit.
-fn digits_value(text: &[u8]) -> Option<i64>
+fn digits_value(text: &[u8]) -> Option<u64>
     requires { length text.now ≤ 10 }
-    ensures { result ≡ (if list_all is_ascii_digit text.now then Some (pos (digits.digits_value 10 text.now)) else None) }
+    ensures value { result ≡ (if list_all is_ascii_digit text.now then Some (digits.digits_value 10 text.now) else None) }
+    ensures small { IfSome result (λ value. value < 10 ^ 10) }
 {
     let mut value = 0u64;
     for byte in text {
@@ -41,5 +53,5 @@ fn digits_value(text: &[u8]) -> Option<i64>
         }
         value = value * 10 + u64::from(*byte - b'0');
     }
-    Some(value as i64)
+    Some(value)
 }

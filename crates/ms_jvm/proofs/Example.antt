@@ -17,7 +17,7 @@ use Rattle.ms_jvm.specs.Ends.{path_end_of}
 use Rattle.ms_jvm.specs.Programs.{at, code_from, program_of}
 
 abbrev method : List Kind → List Instruction → Method
-method kinds instructions = record { name = codes "f"; descriptor = []; kinds = kinds; result = I; max_stack = 2; instructions = instructions }
+method kinds instructions = record { class = codes "T"; name = codes "f"; descriptor = []; kinds = kinds; result = I; max_stack = 2; instructions = instructions }
 
 abbrev input : List Kind → List ℤ → Words
 input kinds words = record { kinds = kinds; words = words }

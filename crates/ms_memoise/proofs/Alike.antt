@@ -1,5 +1,5 @@
 -- Lines that are the same command. What is kept of a line is the same command as the line.
-use Rattle.std.proofs.Common.{◌≡◌, ℕ, zero, suc, ◌+◌, ◌-◌, ◌<◌, ◌≤◌, List, [], ◌∷◌, ◌++◌, length, take, map, ◌==◌, refl, sym, ap, ◌∙◌, subst, subst₂, arith, inl, inr, Some, Err, slice_get, slice_index}
+use Rattle.std.proofs.Common.{◌≡◌, ℕ, zero, suc, ◌+◌, ◌-◌, ◌<◌, ◌≤◌, List, [], ◌∷◌, ◌++◌, length, take, map, ◌==◌, refl, sym, ap, ◌∙◌, subst, subst₂, arith, inl, inr, Some, Err, slice_get, slice_index, Bool, true, false, cond, ◌||◌}
 use Rattle.std.proofs.lemmas.List.{take_all, length-take}
 use Rattle.std.proofs.lemmas.Bool.{cases_lt, cond_both, cond-false, lt-leb, ne_eqb, and_left}
 use Rattle.std.specs.List.{AllByRecursion}
@@ -8,9 +8,11 @@ use Rattle.std.specs.Io.KnownBytes.{Appends}
 use Rattle.ms_command.specs.Commands.{command_of}
 use Rattle.ms_command.specs.Lines.{most_line_bytes}
 use Rattle.ms_command.specs.declared.reply.Reply.TheVariants.{NoLine}
+use Rattle.ms_session.specs.Outside.{AreAnswers, ShelfSide, SinkSide}
+use Rattle.ms_session.specs.States.{State}
 use Rattle.ms_memoise.specs.declared.status.Status.{Status}
-use Rattle.ms_memoise.specs.Events.{AreAnswers, Event, IsAnswered, ShelfSide, lines_of, names_in, text_for, text_of, texts_of}
-use Rattle.ms_memoise.specs.Conversations.{Begun, SinkSide}
+use Rattle.ms_memoise.specs.Events.{Event, IsAnswered, has_quit, is_quit, lines_of, names_of, next_for, next_of, quits, state_after, text_after, up_to_quit}
+use Rattle.ms_memoise.specs.Conversations.{Begun}
 use Rattle.ms_memoise.specs.Feeding.{Broke, Did, most_kept}
 use Rattle.ms_memoise.specs.Turns.{last_lines}
 use Rattle.ms_memoise.proofs.Scanning.{cut}
@@ -70,6 +72,25 @@ alike_take (suc n) [] (y ∷ ys) p = absurd p
 alike_take (suc n) (x ∷ xs) [] p = absurd p
 alike_take (suc n) (x ∷ xs) (y ∷ ys) p = (p.0, alike_take n xs ys p.1)
 
+-- one of them is a quit where one of the others is
+pub alike_quit : (xs ys : List (List ℕ)) → Alike xs ys → has_quit xs ≡ has_quit ys
+alike_quit [] [] p = refl
+alike_quit [] (y ∷ ys) p = absurd p
+alike_quit (x ∷ xs) [] p = absurd p
+alike_quit (x ∷ xs) (y ∷ ys) p = ap (λ c. quits c || has_quit xs) p.0 ∙ ap (λ b. is_quit y || b) (alike_quit xs ys p.1)
+
+alike_at_quit : (b c : Bool) (xs ys : List (List ℕ)) → b ≡ c → Alike xs ys → Alike (cond b [] xs) (cond c [] ys)
+alike_at_quit true true xs ys same p = tt
+alike_at_quit true false xs ys same p = absurd (cc)
+alike_at_quit false true xs ys same p = absurd (cc)
+alike_at_quit false false xs ys same p = p
+
+pub alike_up : (xs ys : List (List ℕ)) → Alike xs ys → Alike (up_to_quit xs) (up_to_quit ys)
+alike_up [] [] p = tt
+alike_up [] (y ∷ ys) p = absurd p
+alike_up (x ∷ xs) [] p = absurd p
+alike_up (x ∷ xs) (y ∷ ys) p = (p.0, alike_at_quit (is_quit x) (is_quit y) _ _ (ap quits p.0) (alike_up xs ys p.1))
+
 -- what stands at a place of the other list
 pub record Other (ys : List (List ℕ)) (n : ℕ) (line : List ℕ) : Type 0 where
   pub other : List ℕ
@@ -94,14 +115,19 @@ pub record Relabelled (a b : ShelfSide) (events : List Event) (ys : List (List �
   pub others : List Event
   pub lines : lines_of others ≡ ys
   pub many : length others ≡ length events
-  pub texts : texts_of others ≡ texts_of events
+  pub texts : (x : State) → text_after x others ≡ text_after x events
+  pub states : (x : State) → state_after x others ≡ state_after x events
   pub answered : AllByRecursion (IsAnswered a b) others
 
 answered_so : (a b : ShelfSide) (event : Event) (line : List ℕ) → command_of event.line ≡ command_of line → IsAnswered a b event → IsAnswered a b (with_line line event)
-answered_so a b event line same are = subst (λ command. AreAnswers a b (names_in command) event.answers) same are
+answered_so a b event line same are = subst (λ command. AreAnswers a b (names_of command) event.answers) same are
+
+-- a line that is the same command does the same
+next_so : (event : Event) (line : List ℕ) (x : State) → command_of event.line ≡ command_of line → next_of x (with_line line event) ≡ next_of x event
+next_so event line x same = ap (λ command. next_for x command event.answers) (sym same)
 
 pub relabelled : (a b : ShelfSide) (events : List Event) (ys : List (List ℕ)) → Alike (lines_of events) ys → AllByRecursion (IsAnswered a b) events → Relabelled a b events ys
-relabelled a b [] [] p are = record { others = []; lines = refl; many = refl; texts = refl; answered = tt }
+relabelled a b [] [] p are = record { others = []; lines = refl; many = refl; texts = λ x. refl; states = λ x. refl; answered = tt }
 relabelled a b [] (y ∷ ys) p are = absurd p
 relabelled a b (event ∷ events) [] p are = absurd p
 relabelled a b (event ∷ events) (y ∷ ys) p are =
@@ -110,43 +136,46 @@ relabelled a b (event ∷ events) (y ∷ ys) p are =
       others = with_line y event ∷ rest.others;
       lines = ap (λ l. y ∷ l) rest.lines;
       many = ap suc rest.many;
-      texts = ap (λ command. text_for command event.answers ++ texts_of rest.others) (sym p.0) ∙ ap (λ l. text_of event ++ l) rest.texts;
+      texts = λ x. ap (λ n. n.text ++ text_after n.state rest.others) (next_so event y x p.0) ∙ ap (λ l. (next_of x event).text ++ l) (rest.texts (next_of x event).state);
+      states = λ x. ap (λ n. state_after n.state rest.others) (next_so event y x p.0) ∙ rest.states (next_of x event).state;
       answered = (answered_so a b event y p.0 are.0, rest.answered);
     }
 
-pub did_alike : (xs ys : List (List ℕ)) (a b : ShelfSide) (s t : SinkSide) → Alike xs ys → Did xs a b s t → Did ys a b s t
-did_alike xs ys a b s t alike p =
+pub did_alike : (xs ys : List (List ℕ)) (x y : State) (a b : ShelfSide) (s t : SinkSide) → Alike xs ys → Did xs x y a b s t → Did ys x y a b s t
+did_alike xs ys x y a b s t alike p =
     let found = relabelled a b p.events ys (subst (λ l. Alike l ys) (sym p.lines) alike) p.answered in
     record {
       events = found.others;
       lines = found.lines;
       answered = found.answered;
-      wrote = subst (Appends s.taken t.taken) (sym found.texts) p.wrote;
+      wrote = subst (Appends s.taken t.taken) (sym (found.texts x)) p.wrote;
+      state_is = p.state_is ∙ sym (found.states x);
       passes = p.passes;
       calm = p.calm;
     }
 
-begun_alike : (xs ys : List (List ℕ)) (a b : ShelfSide) (n : ℕ) (part : List ℕ) → Alike xs ys → Begun a b xs n part → Begun a b ys n part
-begun_alike xs ys a b n part alike p =
+begun_alike : (xs ys : List (List ℕ)) (x : State) (a b : ShelfSide) (n : ℕ) (part : List ℕ) → Alike xs ys → Begun x a b xs n part → Begun x a b ys n part
+begun_alike xs ys x a b n part alike p =
     let found = alike_at xs ys n p.event.line alike p.line in
     record {
       event = with_line found.other p.event;
       line = found.there;
       answered = answered_so a b p.event found.other found.same p.answered;
-      begins = ap (λ command. take (length part) (text_for command p.event.answers)) (sym found.same) ∙ p.begins;
+      begins = ap (λ n. take (length part) n.text) (next_so p.event found.other x found.same) ∙ p.begins;
     }
 
-pub broke_alike : (status : Status) (xs ys : List (List ℕ)) (a b : ShelfSide) (s t : SinkSide) → Alike xs ys → Broke status xs a b s t → Broke status ys a b s t
-broke_alike status xs ys a b s t alike p =
+pub broke_alike : (status : Status) (xs ys : List (List ℕ)) (x : State) (a b : ShelfSide) (s t : SinkSide) → Alike xs ys → Broke status xs x a b s t → Broke status ys x a b s t
+broke_alike status xs ys x a b s t alike p =
     let n = length p.events in
     let found = relabelled a b p.events (take n ys) (subst (λ l. Alike l (take n ys)) (sym p.lines) (alike_take n xs ys alike)) p.answered in
     record {
       events = found.others;
       part = p.part;
       lines = found.lines ∙ ap (λ m. take m ys) (sym found.many);
-      begun = λ h. subst (λ m. Begun a b ys m p.part) (sym found.many) (begun_alike xs ys a b n p.part alike (p.begun h));
+      begun = λ h. subst (λ m. Begun (state_after x found.others) a b ys m p.part) (sym found.many)
+          (subst (λ y. Begun y a b ys n p.part) (sym (found.states x)) (begun_alike xs ys (state_after x p.events) a b n p.part alike (p.begun h)));
       answered = found.answered;
-      wrote = subst (λ l. Appends s.taken t.taken (l ++ p.part)) (sym found.texts) p.wrote;
+      wrote = subst (λ l. Appends s.taken t.taken (l ++ p.part)) (sym (found.texts x)) p.wrote;
       stops = p.stops;
       at_status = p.at_status;
       passes = p.passes;

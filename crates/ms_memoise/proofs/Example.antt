@@ -7,8 +7,10 @@ use Rattle.ms_outside.specs.Shelves.{File}
 use Rattle.ms_classfile.specs.Reading.{thin_method, repeated, text_at, class_at, entry_at, pool_at, attribute_at, attributes_at, load_at, push_at, offset_at, branch_at, operand_at, instruction_at, instructions_at, limits_at, rest_is_plain, code_of, method_at, header_at, class_part_at, counts_at}
 use Rattle.ms_machine.specs.Segments.{most_instructions}
 use Rattle.ms_memoise.specs.Lines.{whole_lines}
-use Rattle.ms_memoise.specs.Replies.{once_end}
-use Rattle.ms_memoise.specs.Events.{replies}
+use Rattle.ms_session.specs.Paths.{tree_from, words_of}
+use Rattle.ms_session.specs.Known.{explore}
+use Rattle.ms_session.specs.Steps.{once_end}
+use Rattle.ms_memoise.specs.Events.{replies, up_to_quit}
 
 -- a carriage return goes before a line feed alone, and the last line counts where it isn't empty
 some_lines : lines (97 ∷ 13 ∷ 10 ∷ 10 ∷ 13 ∷ 98 ∷ 13 ∷ []) ≡ (97 ∷ []) ∷ [] ∷ (13 ∷ 98 ∷ 13 ∷ []) ∷ []
@@ -46,3 +48,16 @@ branches = codes "once B.class f (ZZ)I 0 1" ++ 10 ∷ codes "once B.class f (ZZ)
 branched_replies : replies shelf branches ≡ codes "ok returns 0" ++ 10 ∷ codes "ok returns 2" ++ 10 ∷ codes "ok returns 1" ++ 10 ∷ codes "refused 90 NotBuilt" ++ 10 ∷ []
 unfolding int_wrap digits thin_method repeated text_at class_at entry_at pool_at attribute_at attributes_at load_at push_at offset_at branch_at operand_at instruction_at instructions_at limits_at rest_is_plain code_of method_at header_at class_part_at counts_at most_instructions once_end
 branched_replies = refl
+
+-- a quit is a line whose only token is the word
+some_up_to_quit : up_to_quit (codes "quit now" ∷ codes " quit " ∷ codes "report" ∷ []) ≡ codes "quit now" ∷ codes " quit " ∷ []
+some_up_to_quit = refl
+
+-- a session over a file: its class, its entry, all of its paths; and then the paths at a lesser depth, which need
+-- no asks; a line behind the quit is not done
+abbrev session : List ℕ
+session = codes "class B.class" ++ 10 ∷ codes "entry T f (ZZ)I" ++ 10 ∷ codes "depth 2" ++ 10 ∷ codes "explore 10" ++ 10 ∷ codes "report" ++ 10 ∷ codes "depth 1" ++ 10 ∷ codes "report" ++ 10 ∷ codes "quit" ++ 10 ∷ codes "once"
+
+session_replies : replies shelf session ≡ codes "ok class T verdicts 0 segments 0" ++ 10 ∷ codes "ok entry T.f(ZZ)I" ++ 10 ∷ codes "ok depth 2" ++ 10 ∷ codes "ok explored 5 asks 2 finished" ++ 10 ∷ codes "path 0 input 1,0 returns 1" ++ 10 ∷ codes "path 1.0 input 0,0 returns 2" ++ 10 ∷ codes "path 1.1 input 0,1 returns 0" ++ 10 ∷ codes "ok report paths 3 undecided 0" ++ 10 ∷ codes "ok depth 1" ++ 10 ∷ codes "path 0 input 1,0 returns 1" ++ 10 ∷ codes "path 1 input 0,0 cut" ++ 10 ∷ codes "ok report paths 2 undecided 0" ++ 10 ∷ codes "ok quit" ++ 10 ∷ []
+unfolding int_wrap digits thin_method repeated text_at class_at entry_at pool_at attribute_at attributes_at load_at push_at offset_at branch_at operand_at instruction_at instructions_at limits_at rest_is_plain code_of method_at header_at class_part_at counts_at most_instructions once_end words_of tree_from explore
+session_replies = refl

@@ -1,5 +1,5 @@
 -- Lines that are done one after another.
-use Rattle.std.proofs.Common.{◌≡◌, ℕ, zero, suc, ◌+◌, ◌≤◌, List, [], ◌∷◌, ◌++◌, length, take, refl, sym, ap, ◌∙◌, subst, arith, Some, slice_get, append_assoc, append-nil, length-append, suc-add}
+use Rattle.std.proofs.Common.{◌≡◌, ℕ, zero, suc, ◌+◌, ◌≤◌, List, [], ◌∷◌, ◌++◌, length, take, refl, sym, ap, ◌∙◌, subst, arith, Some, slice_get, append_assoc, length-append, suc-add}
 use Rattle.std.specs.List.{AllByRecursion}
 use Rattle.std.specs.Io.KnownBytes.{Appends}
 use Rattle.std.proofs.lemmas.List.{take-append-le, length-take}
@@ -7,20 +7,19 @@ use Rattle.std.proofs.Math.Seq.{take-append-add}
 use Rattle.std.proofs.KnownBytes.{Appends-nil, Appends-trans}
 use Rattle.ms_memoise.specs.declared.status.Status.{Status}
 use Rattle.ms_memoise.specs.declared.status.Status.TheVariants.{Done, Usage, ReadFault, WriteFault, NoMemory, ShelfFault, TooMuchInput}
-use Rattle.ms_outside.specs.Counts.{Rose}
-use Rattle.ms_outside.specs.Sinks.{TakesPart}
-use Rattle.ms_command.specs.Commands.{command_of}
-use Rattle.ms_memoise.specs.Events.{Event, IsAnswered, ShelfSide, lines_of, text_of, texts_of}
-use Rattle.ms_memoise.specs.Conversations.{SinkSide}
-use Rattle.ms_memoise.specs.Feeding.{Broke, Calm, Did, Hindered, Hinders, IsPartAt, Passes, Prepared, Stops}
+use Rattle.ms_session.specs.Outside.{Calm, Passes, ShelfSide, SinkSide}
+use Rattle.ms_session.specs.States.{State}
+use Rattle.ms_memoise.specs.Events.{Event, IsAnswered, lines_of, next_of, state_after, text_after}
+use Rattle.ms_memoise.specs.Feeding.{Broke, Did, IsPartAt, Stops}
 use Rattle.ms_memoise.proofs.Spans.{answers_wider, events_wider, passes_later, rose_wider, shelf_same}
 
-pub did_nothing : (a : ShelfSide) (s : SinkSide) → Did [] a a s s
-did_nothing a s = record {
+pub did_nothing : (x : State) (a : ShelfSide) (s : SinkSide) → Did [] x x a a s s
+did_nothing x a s = record {
   events = [];
   lines = refl;
   answered = tt;
   wrote = Appends-nil s.taken;
+  state_is = refl;
   passes = record { on_shelf = shelf_same a; writes = omega arith };
   calm = (refl, refl);
 }
@@ -33,24 +32,38 @@ lines_append : (xs ys : List Event) → lines_of (xs ++ ys) ≡ lines_of xs ++ l
 lines_append [] ys = refl
 lines_append (x ∷ xs) ys = ap (λ l. x.line ∷ l) (lines_append xs ys)
 
-texts_append : (xs ys : List Event) → texts_of (xs ++ ys) ≡ texts_of xs ++ texts_of ys
-texts_append [] ys = refl
-texts_append (x ∷ xs) ys = ap (λ l. text_of x ++ l) (texts_append xs ys) ∙ sym (append_assoc (text_of x) (texts_of xs) (texts_of ys))
+text_append : (x : State) (xs ys : List Event) → text_after x (xs ++ ys) ≡ text_after x xs ++ text_after (state_after x xs) ys
+text_append x [] ys = refl
+text_append x (e ∷ es) ys =
+    ap (λ l. (next_of x e).text ++ l) (text_append (next_of x e).state es ys)
+    ∙ sym (append_assoc (next_of x e).text (text_after (next_of x e).state es) (text_after (state_after (next_of x e).state es) ys))
 
-pub did_both : (xs ys : List (List ℕ)) (a b c : ShelfSide) (s t u : SinkSide) → Did xs a b s t → Did ys b c t u → Did (xs ++ ys) a c s u
-did_both xs ys a b c s t u p q = record {
+state_append : (x : State) (xs ys : List Event) → state_after x (xs ++ ys) ≡ state_after (state_after x xs) ys
+state_append x [] ys = refl
+state_append x (e ∷ es) ys = state_append (next_of x e).state es ys
+
+-- what is written from the state on that some lines led to
+text_from : (x y : State) (xs ys : List Event) → y ≡ state_after x xs → text_after x xs ++ text_after y ys ≡ text_after x (xs ++ ys)
+text_from x y xs ys is = ap (λ z. text_after x xs ++ text_after z ys) is ∙ sym (text_append x xs ys)
+
+state_from : (x y : State) (xs ys : List Event) → y ≡ state_after x xs → state_after y ys ≡ state_after x (xs ++ ys)
+state_from x y xs ys is = ap (λ z. state_after z ys) is ∙ sym (state_append x xs ys)
+
+pub did_both : (xs ys : List (List ℕ)) (x y z : State) (a b c : ShelfSide) (s t u : SinkSide) → Did xs x y a b s t → Did ys y z b c t u → Did (xs ++ ys) x z a c s u
+did_both xs ys x y z a b c s t u p q = record {
   events = p.events ++ q.events;
   lines = lines_append p.events q.events ∙ ap (λ l. l ++ lines_of q.events) p.lines ∙ ap (λ l. xs ++ l) q.lines;
   answered = all_append (IsAnswered a c) p.events q.events
       (events_wider a a b c p.events (shelf_same a) q.passes.on_shelf p.answered)
       (events_wider a b c c q.events p.passes.on_shelf (shelf_same c) q.answered);
-  wrote = subst (Appends s.taken u.taken) (sym (texts_append p.events q.events)) (Appends-trans _ _ _ _ _ p.wrote q.wrote);
+  wrote = subst (Appends s.taken u.taken) (text_from x y p.events q.events p.state_is) (Appends-trans _ _ _ _ _ p.wrote q.wrote);
+  state_is = q.state_is ∙ state_from x y p.events q.events p.state_is;
   passes = passes_later a b c s t u p.passes q.passes;
   calm = (q.calm.0 ∙ p.calm.0, q.calm.1 ∙ p.calm.1);
 }
 
-pub broke_here : (status : Status) (all : List (List ℕ)) (a : ShelfSide) (s : SinkSide) → Stops status a a s s → IsPartAt status [] → Broke status all a a s s
-broke_here status all a s stops at_status = record {
+pub broke_here : (status : Status) (all : List (List ℕ)) (x : State) (a : ShelfSide) (s : SinkSide) → Stops status a a s s → IsPartAt status [] → Broke status all x a a s s
+broke_here status all x a s stops at_status = record {
   events = [];
   part = [];
   lines = refl;
@@ -61,60 +74,6 @@ broke_here status all a s stops at_status = record {
   at_status = at_status;
   passes = record { on_shelf = shelf_same a; writes = omega arith };
 }
-
-hinders_stops : (status : Status) (a b : ShelfSide) (s : SinkSide) → Hinders status a b → Stops status a b s s × IsPartAt status []
-hinders_stops Done a b s h = absurd h
-hinders_stops Usage a b s h = absurd h
-hinders_stops ReadFault a b s h = absurd h
-hinders_stops WriteFault a b s h = absurd h
-hinders_stops NoMemory a b s h = ((h, refl), tt)
-hinders_stops ShelfFault a b s h = ((h, refl), refl)
-hinders_stops TooMuchInput a b s h = absurd h
-
-pub broke_hindered : (status : Status) (all : List (List ℕ)) (a b : ShelfSide) (s : SinkSide) → Hindered status a b → Broke status all a b s s
-broke_hindered status all a b s h = record {
-  events = [];
-  part = [];
-  lines = refl;
-  begun = λ h. absurd (omega arith);
-  answered = tt;
-  wrote = Appends-nil s.taken;
-  stops = (hinders_stops status a b s h.why).0;
-  at_status = (hinders_stops status a b s h.why).1;
-  passes = record { on_shelf = h.passes; writes = omega arith };
-}
-
-pub did_one : (line text piece : List ℕ) (a b : ShelfSide) (s t : SinkSide) → Prepared (command_of line) a b text → piece ≡ text → Appends s.taken t.taken piece → t.faults ≡ s.faults → Did (line ∷ []) a b s t
-did_one line text piece a b s t p is wrote steady = record {
-  events = record { line = line; answers = p.answers } ∷ [];
-  lines = refl;
-  answered = (p.given, tt);
-  wrote = subst (Appends s.taken t.taken) (is ∙ p.is ∙ sym (append-nil _)) wrote;
-  passes = record { on_shelf = p.passes; writes = omega arith };
-  calm = (p.calm, steady);
-}
-
-take_of_take : (n : ℕ) (xs : List ℕ) → take (length (take n xs)) xs ≡ take n xs
-take_of_take zero xs = refl
-take_of_take (suc n) [] = refl
-take_of_take (suc n) (x ∷ xs) = ap (λ l. x ∷ l) (take_of_take n xs)
-
-pub broke_writing : (line text piece : List ℕ) (a b : ShelfSide) (s t : SinkSide) → Prepared (command_of line) a b text → piece ≡ text → TakesPart s.taken t.taken piece → s.faults ≤ t.faults
-    → Rose s.faults t.faults → Broke WriteFault (line ∷ []) a b s t
-broke_writing line text piece a b s t p is wrote grows rose =
-    let event : Event = record { line = line; answers = p.answers } in
-    let whole : piece ≡ text_of event = is ∙ p.is in
-    record {
-      events = [];
-      part = take wrote.0 (text_of event);
-      lines = refl;
-      begun = λ h. record { event = event; line = refl; answered = p.given; begins = take_of_take wrote.0 (text_of event) };
-      answered = tt;
-      wrote = subst (λ l. Appends s.taken t.taken (take wrote.0 l)) whole wrote.1;
-      stops = (rose, p.calm);
-      at_status = tt;
-      passes = record { on_shelf = p.passes; writes = grows };
-    }
 
 pub length_lines : (events : List Event) → length (lines_of events) ≡ length events
 length_lines [] = refl
@@ -144,8 +103,8 @@ stops_wider ShelfFault a b c s t u p calm h =
 stops_wider TooMuchInput a b c s t u p calm h = h
 
 -- whatever lines follow
-pub broke_before : (status : Status) (xs ys : List (List ℕ)) (a b : ShelfSide) (s t : SinkSide) → Broke status xs a b s t → Broke status (xs ++ ys) a b s t
-broke_before status xs ys a b s t p = record {
+pub broke_before : (status : Status) (xs ys : List (List ℕ)) (x : State) (a b : ShelfSide) (s t : SinkSide) → Broke status xs x a b s t → Broke status (xs ++ ys) x a b s t
+broke_before status xs ys x a b s t p = record {
   events = p.events;
   part = p.part;
   lines = p.lines ∙ sym (take-append-le (length p.events) xs ys (no_more p.events xs p.lines));
@@ -157,8 +116,8 @@ broke_before status xs ys a b s t p = record {
   passes = p.passes;
 }
 
-pub did_broke : (status : Status) (xs ys : List (List ℕ)) (a b c : ShelfSide) (s t u : SinkSide) → Did xs a b s t → Broke status ys b c t u → Broke status (xs ++ ys) a c s u
-did_broke status xs ys a b c s t u p q =
+pub did_broke : (status : Status) (xs ys : List (List ℕ)) (x y : State) (a b c : ShelfSide) (s t u : SinkSide) → Did xs x y a b s t → Broke status ys y b c t u → Broke status (xs ++ ys) x a c s u
+did_broke status xs ys x y a b c s t u p q =
     let count : length (p.events ++ q.events) ≡ length xs + length q.events =
     length-append p.events q.events ∙ ap (λ n. n + length q.events) (sym (length_lines p.events) ∙ ap length p.lines) in
     record {
@@ -170,12 +129,12 @@ did_broke status xs ys a b c s t u p q =
         event = begun.event;
         line = ap (slice_get (xs ++ ys)) count ∙ get_behind xs ys _ ∙ begun.line;
         answered = answers_wider a b c c _ _ p.passes.on_shelf (shelf_same c) begun.answered;
-        begins = begun.begins;
+        begins = ap (λ z. take (length q.part) (next_of z begun.event).text) (sym (state_from x y p.events q.events p.state_is)) ∙ begun.begins;
       };
       answered = all_append (IsAnswered a c) p.events q.events
           (events_wider a a b c p.events (shelf_same a) q.passes.on_shelf p.answered)
           (events_wider a b c c q.events p.passes.on_shelf (shelf_same c) q.answered);
-      wrote = subst (Appends s.taken u.taken) (sym (append_assoc (texts_of p.events) (texts_of q.events) q.part) ∙ ap (λ l. l ++ q.part) (sym (texts_append p.events q.events)))
+      wrote = subst (Appends s.taken u.taken) (sym (append_assoc (text_after x p.events) (text_after y q.events) q.part) ∙ ap (λ l. l ++ q.part) (text_from x y p.events q.events p.state_is))
           (Appends-trans _ _ _ _ _ p.wrote q.wrote);
       stops = stops_wider status a b c s t u p.passes p.calm q.stops;
       at_status = q.at_status;

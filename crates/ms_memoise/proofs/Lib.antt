@@ -1,7 +1,7 @@
 pub mod Spans
-pub mod Called
-pub mod Preparing
+pub mod UpTo
 pub mod Handling
+pub mod Responding
 pub mod Fed
 pub mod Standing
 pub mod Scanning

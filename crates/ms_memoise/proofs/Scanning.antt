@@ -125,10 +125,13 @@ lines_scanned bytes =
     ap lines_of_parts (parts_scanned bytes) ∙ lines_parts (scan_lines [] bytes) (scan_rest [] bytes) ∙ ap (λ l. l ++ last_lines (scan_rest [] bytes)) (sym (whole_lines_scanned bytes))
 
 -- the lines ended by a line feed are the first ones, whatever bytes follow
+pub whole_append : (xs ys : List ℕ) → whole_lines (xs ++ ys) ≡ whole_lines xs ++ map strip_carriage_return (scan_lines (scan_rest [] xs) ys)
+whole_append xs ys =
+    whole_lines_scanned (xs ++ ys) ∙ ap (map strip_carriage_return) (scan_lines_append [] xs ys)
+    ∙ map-append strip_carriage_return (scan_lines [] xs) (scan_lines (scan_rest [] xs) ys)
+    ∙ ap (λ l. l ++ map strip_carriage_return (scan_lines (scan_rest [] xs) ys)) (sym (whole_lines_scanned xs))
+
 pub lines_append : (xs ys : List ℕ) → lines (xs ++ ys) ≡ whole_lines xs ++ (map strip_carriage_return (scan_lines (scan_rest [] xs) ys) ++ last_lines (scan_rest [] (xs ++ ys)))
 lines_append xs ys =
-    lines_scanned (xs ++ ys) ∙ ap (λ l. l ++ last_lines (scan_rest [] (xs ++ ys)))
-    (whole_lines_scanned (xs ++ ys) ∙ ap (map strip_carriage_return) (scan_lines_append [] xs ys)
-    ∙ map-append strip_carriage_return (scan_lines [] xs) (scan_lines (scan_rest [] xs) ys)
-    ∙ ap (λ l. l ++ map strip_carriage_return (scan_lines (scan_rest [] xs) ys)) (sym (whole_lines_scanned xs)))
+    lines_scanned (xs ++ ys) ∙ ap (λ l. l ++ last_lines (scan_rest [] (xs ++ ys))) (whole_append xs ys)
     ∙ append_assoc (whole_lines xs) (map strip_carriage_return (scan_lines (scan_rest [] xs) ys)) (last_lines (scan_rest [] (xs ++ ys)))

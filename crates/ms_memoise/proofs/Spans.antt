@@ -4,9 +4,8 @@ use Rattle.std.specs.List.{AllByRecursion}
 use Rattle.ms_outside.specs.Counts.{CountsGrow, ShelfCounts, Rose}
 use Rattle.ms_outside.specs.Shelves as shelves
 use Rattle.ms_outside.specs.Shelves.{Answer, File, answer_of}
-use Rattle.ms_memoise.specs.Events.{AreAnswers, Event, HasCauseFor, IsAnswered, ShelfSide}
-use Rattle.ms_memoise.specs.Conversations.{SinkSide}
-use Rattle.ms_memoise.specs.Feeding.{Passes, ShelfPasses}
+use Rattle.ms_session.specs.Outside.{AreAnswers, HasCauseFor, Passes, ShelfPasses, ShelfSide, SinkSide}
+use Rattle.ms_memoise.specs.Events.{Event, IsAnswered}
 
 pub counts_same : (c : ShelfCounts) → CountsGrow c c
 counts_same c = record { faults = omega arith; misses = omega arith; overlong = omega arith }

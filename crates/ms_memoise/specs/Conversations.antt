@@ -1,26 +1,20 @@
 -- Conversations: what the program has read, done and written when it ends.
-use Rattle.std.specs.Prelude.{◌≡◌, ℕ, ◌+◌, ◌<◌, ◌≤◌, ◌⊎◌, List, [], ◌++◌, length, take, Option, Some, IfSome, slice_get}
+use Rattle.std.specs.Prelude.{◌≡◌, ℕ, ◌+◌, ◌<◌, ◌≤◌, ◌⊎◌, List, [], ◌++◌, length, take, Bool, IsFalse, IsTrue, Option, Some, IfSome, slice_get}
 use Rattle.std.specs.List.{AllByRecursion}
 use Rattle.std.specs.Str.Lines.{lines}
 use Rattle.std.specs.Io.KnownBytes.{Appends, Consumes, IsAtEnd}
 use Rattle.ms_outside.specs.Counts.{CountsGrow, Rose}
+use Rattle.ms_session.specs.Outside.{ShelfSide, SinkSide, sink_side}
+use Rattle.ms_session.specs.States.{State, new_state}
 use Rattle.ms_memoise.specs.declared.status.Status.{Status}
 use Rattle.ms_memoise.specs.declared.status.Status.TheVariants.{Done, Usage, ReadFault, WriteFault, NoMemory, ShelfFault, TooMuchInput}
 use Rattle.ms_memoise.specs.Lines.{whole_lines}
-use Rattle.ms_memoise.specs.Events.{Event, IsAnswered, ShelfSide, lines_of, text_of, texts_of}
+use Rattle.ms_memoise.specs.Events.{Event, IsAnswered, has_quit, lines_of, next_of, state_after, text_after, up_to_quit}
 
 -- a source at a moment: what it has left, where it tells that, and its count of faults
 pub record SourceSide : Type 0 where
   pub left : Option (List ℕ)
   pub faults : ℕ
-
--- a sink at a moment: what it has taken, where it tells that, and its count of faults
-pub record SinkSide : Type 0 where
-  pub taken : Option (List ℕ)
-  pub faults : ℕ
-
-abbrev pub sink_side : Option (List ℕ) → ℕ → SinkSide
-sink_side taken faults = record { taken = taken; faults = faults }
 
 -- all three
 pub record Outside : Type 0 where
@@ -53,38 +47,66 @@ NoWriteFailed before now = now.sink.faults ≡ before.sink.faults
 abbrev pub NothingFailed : Outside → Outside → Type 0
 NothingFailed before now = NoReadFailed before now × NoFetchFailed before now × NoWriteFailed before now
 
+-- whether a quit is among the lines that a line feed ends in the first `limit` bytes of an input
+abbrev pub quits_within : ℕ → List ℕ → Bool
+quits_within limit input = has_quit (whole_lines (take limit input))
+
+-- an input is at most `limit` bytes long, or such a quit is in it
+abbrev pub Fits : ℕ → List ℕ → Type 0
+Fits limit input = (length input ≤ limit) ⊎ IsTrue (quits_within limit input)
+
+-- it is longer, and no such quit is in it
+abbrev pub Exceeds : ℕ → List ℕ → Type 0
+Exceeds limit input = (limit < length input) × IsFalse (quits_within limit input)
+
 -- Why a run ended so. A fault of a device ends it: the count of that device rose, and that of no other
 -- one. Where words on the command line or want of memory ended it, nothing failed.
 abbrev pub HasCauseOf : ℕ → Status → Outside → Outside → Type 0
-HasCauseOf limit Done before now = NothingFailed before now × IsAtEnd now.source.left
+HasCauseOf limit Done before now = NothingFailed before now
 HasCauseOf limit Usage before now = NothingFailed before now
 HasCauseOf limit ReadFault before now = Rose before.source.faults now.source.faults × NoFetchFailed before now × NoWriteFailed before now
 HasCauseOf limit WriteFault before now = Rose before.sink.faults now.sink.faults × NoReadFailed before now × NoFetchFailed before now
 HasCauseOf limit NoMemory before now = NothingFailed before now
 HasCauseOf limit ShelfFault before now = Rose before.shelf.counts.faults now.shelf.counts.faults × NoReadFailed before now × NoWriteFailed before now
-HasCauseOf limit TooMuchInput before now = NothingFailed before now × IfSome before.source.left (λ input. limit < length input)
+HasCauseOf limit TooMuchInput before now = NothingFailed before now × IfSome before.source.left (Exceeds limit)
 
--- what was written of the reply to the line after those that were done: first bytes of the text of its event
-pub record Begun (before now : ShelfSide) (all : List (List ℕ)) (done : ℕ) (part : List ℕ) : Type 0 where
+-- What was written of the reply to the line after those that were done: first bytes of the text of its
+-- event, in the state that they led to.
+pub record Begun (state : State) (before now : ShelfSide) (all : List (List ℕ)) (done : ℕ) (part : List ℕ) : Type 0 where
   pub event : Event
   pub line : slice_get all done ≡ Some event.line
   pub answered : IsAnswered before now event
-  pub begins : take (length part) (text_of event) ≡ part
+  pub begins : take (length part) (next_of state event).text ≡ part
+
+-- The lines done are the first ones of these, from a new session on, and what was begun is the reply to
+-- the next one.
+pub record Leads (before now : ShelfSide) (events : List Event) (part : List ℕ) (all : List (List ℕ)) : Type 0 where
+  pub first : lines_of events ≡ take (length events) all
+  pub begun : 0 < length part → Begun (state_after new_state events) before now all (length events) part
+
+-- no more lines are to be done: the source has none left, or a quit is among those that a line feed ends
+abbrev pub IsOver : Option (List ℕ) → List ℕ → Type 0
+IsOver left bytes = IsAtEnd left ⊎ IsTrue (has_quit (whole_lines bytes))
+
+-- these are the lines that a line feed ends, and none of them is a quit
+abbrev pub AreWhole : List ℕ → List (List ℕ) → Type 0
+AreWhole bytes done = (done ≡ whole_lines bytes) × IsFalse (has_quit (whole_lines bytes))
 
 -- Which lines were done when a run ended so, and whether it broke off within a reply, by the bytes
--- that it took: with status `Done` all lines; after a failed read all those ended by a line feed; where
--- too many bytes came, all those ended by a line feed in the first `limit` bytes; and else some first
--- lines.
-abbrev pub HasDone : ℕ → Status → List ℕ → List (List ℕ) → List ℕ → Type 0
-HasDone limit Done bytes done part = (length bytes ≤ limit) × (done ≡ lines bytes) × (part ≡ [])
-HasDone limit Usage bytes done part = (bytes ≡ []) × (done ≡ []) × (part ≡ [])
-HasDone limit ReadFault bytes done part = (length bytes ≤ limit) × (done ≡ whole_lines bytes) × (part ≡ [])
-HasDone limit WriteFault bytes done part = length bytes ≤ limit
-HasDone limit NoMemory bytes done part = length bytes ≤ limit
-HasDone limit ShelfFault bytes done part = (length bytes ≤ limit) × (part ≡ [])
-HasDone limit TooMuchInput bytes done part = (length bytes ≡ limit + 1) × (done ≡ whole_lines (take limit bytes)) × (part ≡ [])
+-- that it took, and by what the source has left: with status `Done` all lines up to the first quit, and
+-- there are no more; after a failed read all those ended by a line feed, none of them a quit; where too
+-- many bytes came, all those ended by a line feed in the first `limit` bytes, none of them a quit; and
+-- else some first lines.
+abbrev pub HasDone : ℕ → Status → Option (List ℕ) → List ℕ → List (List ℕ) → List ℕ → Type 0
+HasDone limit Done left bytes done part = (length bytes ≤ limit) × (done ≡ up_to_quit (lines bytes)) × (part ≡ []) × IsOver left bytes
+HasDone limit Usage left bytes done part = (bytes ≡ []) × (done ≡ []) × (part ≡ [])
+HasDone limit ReadFault left bytes done part = (length bytes ≤ limit) × AreWhole bytes done × (part ≡ [])
+HasDone limit WriteFault left bytes done part = length bytes ≤ limit
+HasDone limit NoMemory left bytes done part = length bytes ≤ limit
+HasDone limit ShelfFault left bytes done part = (length bytes ≤ limit) × (part ≡ [])
+HasDone limit TooMuchInput left bytes done part = (length bytes ≡ limit + 1) × AreWhole (take limit bytes) done × (part ≡ [])
 
--- A run that took at most `limit` bytes, or one more, and ended so.
+-- A run that took at most `limit` bytes, or one more, and ended so. Its session was new at the start.
 pub record Conversation (limit : ℕ) (before now : Outside) (status : Status) : Type 0 where
   -- the bytes that it took
   pub bytes : List ℕ
@@ -93,12 +115,13 @@ pub record Conversation (limit : ℕ) (before now : Outside) (status : Status) :
   -- what it wrote of the next reply
   pub part : List ℕ
   pub took : Consumes before.source.left now.source.left bytes
-  pub wrote : Appends before.sink.taken now.sink.taken (texts_of events ++ part)
+  pub wrote : Appends before.sink.taken now.sink.taken (text_after new_state events ++ part)
   pub answered : AllByRecursion (IsAnswered before.shelf now.shelf) events
-  -- where the source tells what it holds, the lines done are its first lines, and what was begun is the next one's
-  pub first : IfSome before.source.left (λ input. lines_of events ≡ take (length events) (lines input))
-  pub begun : IfSome before.source.left (λ input. 0 < length part → Begun before.shelf now.shelf (lines input) (length events) part)
-  pub done : HasDone limit status bytes (lines_of events) part
+  -- they are the first lines of those bytes, up to a quit
+  pub first : Leads before.shelf now.shelf events part (up_to_quit (lines bytes))
+  -- and of what the source holds, where it tells that
+  pub told : IfSome before.source.left (λ input. Leads before.shelf now.shelf events part (up_to_quit (lines input)))
+  pub done : HasDone limit status now.source.left bytes (lines_of events) part
   pub cause : HasCauseOf limit status before now
   pub elapses : Elapses before now
 

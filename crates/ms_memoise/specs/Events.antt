@@ -1,47 +1,48 @@
--- Events: lines with the shelf's answers to the file names in them, and what is written for one.
-use Rattle.std.specs.Prelude.{◌≡◌, ℕ, List, [], ◌∷◌, length, map, Option, IfSome, Result, Ok, Err}
-use Rattle.std.specs.List.{flat_map, AllByRecursion}
+-- Events: lines with the shelf's answers to the file names in them, and what a session does for them.
+use Rattle.std.specs.Prelude.{ℕ, List, [], ◌∷◌, ◌++◌, map, Bool, true, false, if◌then◌else◌, Result, Ok, Err}
+use Rattle.std.specs.List.{list_any}
 use Rattle.std.specs.Str.Lines.{lines}
-use Rattle.ms_outside.specs.Counts.{ShelfCounts, Rose}
-use Rattle.ms_outside.specs.Shelves as shelves
-use Rattle.ms_outside.specs.Shelves.{Answer, File, IsWithinLimit, answer_of}
+use Rattle.ms_outside.specs.Shelves.{Answer, File, answer_of}
 use Rattle.ms_command.specs.declared.command.Command.{Command}
-use Rattle.ms_command.specs.declared.command.Command.TheVariants.{Nothing, Once}
+use Rattle.ms_command.specs.declared.command.Command.TheVariants as commands
 use Rattle.ms_command.specs.declared.reply.Reply.{Reply}
 use Rattle.ms_command.specs.Commands.{command_of}
-use Rattle.ms_command.specs.Texts.{reply_text}
-use Rattle.ms_memoise.specs.Replies.{once_reply}
+use Rattle.ms_session.specs.Outside.{AreAnswers, ShelfSide}
+use Rattle.ms_session.specs.States.{State, new_state}
+use Rattle.ms_session.specs.Steps.{Next, names_in, next, reply_alone}
 
 -- a line, and the shelf's answers to the names of files in it, in their order
 pub record Event : Type 0 where
   pub line : List ℕ
   pub answers : List Answer
 
--- the names of files that a command asks for, in order; a line that is no command asks for none
-abbrev pub names_in : Result Command Reply → List (List ℕ)
-names_in (Err reply) = []
-names_in (Ok Nothing) = []
-names_in (Ok (Once file name desc words)) = file ∷ []
+-- the names of files that are asked for, in order; a line that is no command asks for none
+abbrev pub names_of : Result Command Reply → List (List ℕ)
+names_of (Err reply) = []
+names_of (Ok command) = names_in command
 
 -- the names of files that a line asks for
 abbrev pub asked : List ℕ → List (List ℕ)
-asked line = names_in (command_of line)
+asked line = names_of (command_of line)
 
--- What is written for a command, by the answers: the text of its reply, or nothing for a line without a
--- token. For a line that is no command it is the text of the refusal that is its reply.
-abbrev pub text_for : Result Command Reply → List Answer → List ℕ
-text_for (Err reply) answers = reply_text reply
-text_for (Ok Nothing) answers = []
-text_for (Ok (Once file name desc words)) [] = []
-text_for (Ok (Once file name desc words)) (answer ∷ answers) = reply_text (once_reply file name desc words answer)
+-- what is written, and the state then: a line that is no command gets its refusal, and changes nothing
+abbrev pub next_for : State → Result Command Reply → List Answer → Next
+next_for state (Err reply) answers = reply_alone state reply
+next_for state (Ok command) answers = next state command answers
 
--- what is written for an event
-abbrev pub text_of : Event → List ℕ
-text_of event = text_for (command_of event.line) event.answers
+-- the same for an event
+abbrev pub next_of : State → Event → Next
+next_of state event = next_for state (command_of event.line) event.answers
 
--- what is written for events, one after another
-abbrev pub texts_of : List Event → List ℕ
-texts_of events = flat_map text_of events
+-- what is written for events, one after another, from a state on
+abbrev pub text_after : State → List Event → List ℕ
+text_after state [] = []
+text_after state (event ∷ events) = (next_of state event).text ++ text_after (next_of state event).state events
+
+-- the state after them
+abbrev pub state_after : State → List Event → State
+state_after state [] = state
+state_after state (event ∷ events) = state_after (next_of state event).state events
 
 abbrev pub lines_of : List Event → List (List ℕ)
 lines_of events = map (λ event. event.line) events
@@ -50,32 +51,35 @@ lines_of events = map (λ event. event.line) events
 abbrev pub event_of : List File → List ℕ → Event
 event_of files line = record { line = line; answers = map (answer_of files) (asked line) }
 
--- the replies to the lines of an input, where the shelf has these files
+-- whether it is the command `quit`
+abbrev pub quits : Result Command Reply → Bool
+quits (Err reply) = false
+quits (Ok commands.Nothing) = false
+quits (Ok (commands.Once file name desc words)) = false
+quits (Ok (commands.Class file)) = false
+quits (Ok (commands.Entry class name desc)) = false
+quits (Ok (commands.Depth depth)) = false
+quits (Ok (commands.Explore n)) = false
+quits (Ok commands.Report) = false
+quits (Ok commands.Quit) = true
+
+-- whether a line is the command `quit`
+abbrev pub is_quit : List ℕ → Bool
+is_quit line = quits (command_of line)
+
+-- whether one of the lines is
+abbrev pub has_quit : List (List ℕ) → Bool
+has_quit lines = list_any is_quit lines
+
+-- the lines up to the first quit, itself included
+abbrev pub up_to_quit : List (List ℕ) → List (List ℕ)
+up_to_quit [] = []
+up_to_quit (line ∷ lines) = line ∷ (if is_quit line then [] else up_to_quit lines)
+
+-- What is written for an input where the shelf has these files: the replies to its lines up to the first
+-- quit, in a session that is new.
 abbrev pub replies : List File → List ℕ → List ℕ
-replies files input = texts_of (map (event_of files) (lines input))
-
--- a shelf at a moment: its files, where it tells them, and its counts
-pub record ShelfSide : Type 0 where
-  pub files : Option (List File)
-  pub counts : ShelfCounts
-
-abbrev pub shelf_side : Option (List File) → ShelfCounts → ShelfSide
-shelf_side files counts = record { files = files; counts = counts }
-
--- the answer has its cause: a miss, or a file that is too long, was counted
-abbrev pub HasCauseFor : ShelfSide → ShelfSide → Answer → Type 0
-HasCauseFor before now shelves.Absent = Rose before.counts.misses now.counts.misses
-HasCauseFor before now shelves.TooLong = Rose before.counts.overlong now.counts.overlong
-HasCauseFor before now (shelves.Found bytes) = Unit {0}
-
--- the shelf gave these answers to these names between the two moments
-pub record AreAnswers (before now : ShelfSide) (names : List (List ℕ)) (answers : List Answer) : Type 0 where
-  -- there is one answer to each name
-  pub each : length answers ≡ length names
-  pub size : AllByRecursion IsWithinLimit answers
-  pub causes : AllByRecursion (HasCauseFor before now) answers
-  -- where the shelf tells its files, the answers are theirs
-  pub told : IfSome before.files (λ files. answers ≡ map (answer_of files) names)
+replies files input = text_after new_state (map (event_of files) (up_to_quit (lines input)))
 
 -- the answers of an event came from the shelf between the two moments
 abbrev pub IsAnswered : ShelfSide → ShelfSide → Event → Type 0

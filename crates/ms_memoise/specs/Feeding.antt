@@ -1,18 +1,25 @@
 -- For private functions: how bytes are fed to the program, one after another. Of a line it keeps the
 -- first bytes alone: as many as a command may have, a carriage return, and one more, which tells that
 -- the line is longer.
-use Rattle.std.specs.Prelude.{◌≡◌, ℕ, ◌<◌, ◌≤◌, List, [], ◌∷◌, ◌++◌, length, take, map, nat_lt, ◌==◌, if◌then◌else◌, Result, MatchResult}
+use Rattle.std.specs.Prelude.{◌≡◌, ℕ, ◌<◌, ◌≤◌, List, [], ◌∷◌, ◌++◌, length, take, map, nat_lt, ◌==◌, if◌then◌else◌, Bool, IsFalse, IsTrue, Ok}
 use Rattle.std.specs.List.{AllByRecursion}
 use Rattle.std.specs.Str.Lines.{strip_carriage_return}
 use Rattle.std.specs.Io.KnownBytes.{Appends}
-use Rattle.ms_outside.specs.Counts.{CountsGrow, Rose}
-use Rattle.ms_memoise.specs.declared.status.Status.{Status}
-use Rattle.ms_memoise.specs.declared.status.Status.TheVariants.{Done, Usage, ReadFault, WriteFault, NoMemory, ShelfFault, TooMuchInput}
-use Rattle.ms_outside.specs.Shelves.{Answer}
+use Rattle.ms_outside.specs.Counts.{Rose}
 use Rattle.ms_command.specs.declared.command.Command.{Command}
 use Rattle.ms_command.specs.declared.reply.Reply.{Reply}
-use Rattle.ms_memoise.specs.Events.{AreAnswers, Event, IsAnswered, ShelfSide, lines_of, names_in, text_for, texts_of}
-use Rattle.ms_memoise.specs.Conversations.{Begun, SinkSide}
+use Rattle.ms_command.specs.Texts.{reply_text}
+use Rattle.ms_session.specs.declared.stop.Stop.{Stop}
+use Rattle.ms_session.specs.declared.stop.Stop.TheVariants as stops
+use Rattle.ms_session.specs.Commands as commands
+use Rattle.ms_session.specs.Outside.{Calm, Passes, ShelfSide, SinkSide}
+use Rattle.ms_session.specs.States.{State}
+use Rattle.ms_memoise.specs.declared.status.Status.{Status}
+use Rattle.ms_memoise.specs.declared.status.Status.TheVariants.{Done, Usage, ReadFault, WriteFault, NoMemory, ShelfFault, TooMuchInput}
+use Rattle.ms_memoise.specs.declared.flow.Flow.{Flow}
+use Rattle.ms_memoise.specs.declared.flow.Flow.TheVariants.{GoesOn, Quits}
+use Rattle.ms_memoise.specs.Events.{Event, IsAnswered, has_quit, is_quit, lines_of, quits, state_after, text_after, up_to_quit}
+use Rattle.ms_memoise.specs.Conversations.{Begun}
 
 -- the most bytes that are kept of a line
 abbrev pub most_kept : ℕ
@@ -36,41 +43,54 @@ fed_kept kept (byte ∷ bytes) = if byte == 10 then fed_kept [] bytes else fed_k
 abbrev pub ended_lines : List ℕ → List ℕ → List (List ℕ)
 ended_lines kept bytes = map strip_carriage_return (fed_lines kept bytes)
 
--- no count of the shelf fell, and it has the files that it had
-pub record ShelfPasses (before now : ShelfSide) : Type 0 where
-  pub files : now.files ≡ before.files
-  pub fetches : CountsGrow before.counts now.counts
+-- ---- one line
 
--- no count of the shelf or the sink fell, and the shelf has the files that it had
-pub record Passes (shelf shelf_now : ShelfSide) (sink sink_now : SinkSide) : Type 0 where
-  pub on_shelf : ShelfPasses shelf shelf_now
-  pub writes : sink.faults ≤ sink_now.faults
+-- it quits exactly where the flag is set
+abbrev pub IsFlow : Flow → Bool → Type 0
+IsFlow GoesOn quit = IsFalse quit
+IsFlow Quits quit = IsTrue quit
 
--- no fetch and no write failed
-abbrev pub Calm : ShelfSide → ShelfSide → SinkSide → SinkSide → Type 0
-Calm shelf shelf_now sink sink_now = (shelf_now.counts.faults ≡ shelf.counts.faults) × (sink_now.faults ≡ sink.faults)
+-- the status of a command that broke off
+abbrev pub status_of : Stop → Status
+status_of stops.ShelfFault = ShelfFault
+status_of stops.WriteFault = WriteFault
+status_of stops.NoMemory = NoMemory
 
--- the text for a command is ready, by answers of the shelf
-pub record Prepared (command : Result Command Reply) (before now : ShelfSide) (text : List ℕ) : Type 0 where
-  pub answers : List Answer
-  pub given : AreAnswers before now (names_in command) answers
-  pub is : text ≡ text_for command answers
-  pub passes : ShelfPasses before now
-  pub calm : now.counts.faults ≡ before.counts.faults
+-- a command was done
+pub record Ran (flow : Flow) (command : Command) (state state_now : State) (shelf shelf_now : ShelfSide) (sink sink_now : SinkSide) : Type 0 where
+  pub done : commands.Done command state state_now shelf shelf_now sink sink_now
+  pub flows : IsFlow flow (quits (Ok command))
 
--- why it isn't ready
-abbrev pub Hinders : Status → ShelfSide → ShelfSide → Type 0
-Hinders Done before now = ⊥
-Hinders Usage before now = ⊥
-Hinders ReadFault before now = ⊥
-Hinders WriteFault before now = ⊥
-Hinders NoMemory before now = now.counts.faults ≡ before.counts.faults
-Hinders ShelfFault before now = Rose before.counts.faults now.counts.faults
-Hinders TooMuchInput before now = ⊥
+-- a command broke off
+pub record Halted (status : Status) (command : Command) (state : State) (shelf shelf_now : ShelfSide) (sink sink_now : SinkSide) : Type 0 where
+  pub stop : Stop
+  pub is : status ≡ status_of stop
+  pub stopped : commands.Stopped stop command state shelf shelf_now sink sink_now
 
-pub record Hindered (status : Status) (before now : ShelfSide) : Type 0 where
-  pub why : Hinders status before now
-  pub passes : ShelfPasses before now
+-- a refusal was written
+pub record Said (flow : Flow) (reply : Reply) (sink sink_now : SinkSide) : Type 0 where
+  pub on : flow ≡ GoesOn
+  pub wrote : Appends sink.taken sink_now.taken (reply_text reply)
+  pub steady : sink_now.faults ≡ sink.faults
+
+-- why a refusal wasn't written to its end
+abbrev pub Hushes : Status → SinkSide → SinkSide → Type 0
+Hushes Done sink sink_now = ⊥
+Hushes Usage sink sink_now = ⊥
+Hushes ReadFault sink sink_now = ⊥
+Hushes WriteFault sink sink_now = Rose sink.faults sink_now.faults
+Hushes NoMemory sink sink_now = sink_now.faults ≡ sink.faults
+Hushes ShelfFault sink sink_now = ⊥
+Hushes TooMuchInput sink sink_now = ⊥
+
+-- of a refusal some first bytes were written, perhaps none
+pub record Hushed (status : Status) (reply : Reply) (sink sink_now : SinkSide) : Type 0 where
+  pub many : ℕ
+  pub wrote : Appends sink.taken sink_now.taken (take many (reply_text reply))
+  pub why : Hushes status sink sink_now
+  pub grows : sink.faults ≤ sink_now.faults
+
+-- ---- lines
 
 -- why a line broke off
 abbrev pub Stops : Status → ShelfSide → ShelfSide → SinkSide → SinkSide → Type 0
@@ -92,28 +112,40 @@ IsPartAt WriteFault part = Unit {0}
 IsPartAt NoMemory part = Unit {0}
 IsPartAt TooMuchInput part = Unit {0}
 
--- these lines were done
-pub record Did (all : List (List ℕ)) (shelf shelf_now : ShelfSide) (sink sink_now : SinkSide) : Type 0 where
+-- these lines were done, and led from the one state to the other
+pub record Did (all : List (List ℕ)) (state state_now : State) (shelf shelf_now : ShelfSide) (sink sink_now : SinkSide) : Type 0 where
   pub events : List Event
   pub lines : lines_of events ≡ all
   pub answered : AllByRecursion (IsAnswered shelf shelf_now) events
-  pub wrote : Appends sink.taken sink_now.taken (texts_of events)
+  pub wrote : Appends sink.taken sink_now.taken (text_after state events)
+  pub state_is : state_now ≡ state_after state events
   pub passes : Passes shelf shelf_now sink sink_now
   pub calm : Calm shelf shelf_now sink sink_now
 
--- some first ones of these lines were done, and then it broke off
-pub record Broke (status : Status) (all : List (List ℕ)) (shelf shelf_now : ShelfSide) (sink sink_now : SinkSide) : Type 0 where
+-- from this state on some first ones of these lines were done, and then it broke off
+pub record Broke (status : Status) (all : List (List ℕ)) (state : State) (shelf shelf_now : ShelfSide) (sink sink_now : SinkSide) : Type 0 where
   pub events : List Event
   pub part : List ℕ
   pub lines : lines_of events ≡ take (length events) all
-  pub begun : 0 < length part → Begun shelf shelf_now all (length events) part
+  pub begun : 0 < length part → Begun (state_after state events) shelf shelf_now all (length events) part
   pub answered : AllByRecursion (IsAnswered shelf shelf_now) events
-  pub wrote : Appends sink.taken sink_now.taken (texts_of events ++ part)
+  pub wrote : Appends sink.taken sink_now.taken (text_after state events ++ part)
   pub stops : Stops status shelf shelf_now sink sink_now
   pub at_status : IsPartAt status part
   pub passes : Passes shelf shelf_now sink sink_now
 
--- the lines were done, or it broke off among them
-abbrev pub Handles : Result (Unit {0}) Status → List (List ℕ) → ShelfSide → ShelfSide → SinkSide → SinkSide → Type 0
-Handles result all shelf shelf_now sink sink_now =
-    MatchResult result (λ _. Did all shelf shelf_now sink sink_now) (λ status. Broke status all shelf shelf_now sink sink_now)
+-- a line was done
+pub record Responded (flow : Flow) (line : List ℕ) (state state_now : State) (shelf shelf_now : ShelfSide) (sink sink_now : SinkSide) : Type 0 where
+  pub did : Did (line ∷ []) state state_now shelf shelf_now sink sink_now
+  pub flows : IsFlow flow (is_quit line)
+
+-- unless a line was a quit, this is kept
+abbrev pub KeepsAt : Flow → List ℕ → List ℕ → Type 0
+KeepsAt GoesOn kept_now kept = kept_now ≡ kept
+KeepsAt Quits kept_now kept = Unit {0}
+
+-- the lines that these bytes end were done, up to the first quit
+pub record Fed (flow : Flow) (kept bytes kept_now : List ℕ) (state state_now : State) (shelf shelf_now : ShelfSide) (sink sink_now : SinkSide) : Type 0 where
+  pub did : Did (up_to_quit (ended_lines kept bytes)) state state_now shelf shelf_now sink sink_now
+  pub flows : IsFlow flow (has_quit (ended_lines kept bytes))
+  pub keeps : KeepsAt flow kept_now (fed_kept kept bytes)

@@ -1,5 +1,4 @@
 pub mod Lines
-pub mod Replies
 pub mod Events
 pub mod Statuses
 pub mod Conversations

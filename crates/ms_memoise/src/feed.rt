@@ -1,12 +1,14 @@
 ghost use Rattle.std.specs.Prelude.{◌≡◌, ◌∷◌, [], OnOk, MatchResult};
 ghost use Rattle.std.specs.Str.Lines.{strip_carriage_return};
-ghost use Rattle.ms_memoise.specs.Feeding.{Broke, Did, ended_lines, fed_kept, kept_more};
-ghost use Rattle.ms_memoise.specs.Conversations.{sink_side};
-ghost use Rattle.ms_memoise.specs.Events.{shelf_side};
+ghost use Rattle.ms_session.specs.Outside.{shelf_side, sink_side};
+ghost use Rattle.ms_memoise.specs.Events.{up_to_quit};
+ghost use Rattle.ms_memoise.specs.Feeding.{Broke, Fed, ended_lines, kept_more};
 
-use crate::answer::answer;
+use crate::flow::Flow;
+use crate::response::respond;
 use crate::status::Status;
-use ms_outside::{Shelf, Sink, write_all};
+use ms_outside::{Shelf, Sink};
+use ms_session::Session;
 use ms_words::NoMemory;
 use std::alloc::Global;
 
@@ -14,24 +16,27 @@ use std::alloc::Global;
 /// more, which tells that the line is too long.
 const MOST_KEPT: usize = 4098;
 
-/// Does what the lines ask for that these bytes end. `line` is what is kept of the line that they go
-/// on, and then of the line after them.
+/// Does what the lines ask for that these bytes end, up to the first quit. `line` is what is kept of the
+/// line that they go on, and then, unless there was a quit, of the line after them.
 pub fn feed<F: Shelf, K: Sink>(
     alloc: Global,
     bytes: &[u8],
     line: &mut Vec<u8>,
+    session: &mut Session,
     shelf: &mut F,
     sink: &mut K,
-) -> Result<(), Status>
-    ensures kept { OnOk result (line.new.items ≡ fed_kept line.old.items bytes.now) }
-    ensures lines { MatchResult result
-        (λ _. Did (ended_lines line.old.items bytes.now) (shelf_side (F.files shelf.old) (F.counts shelf.old)) (shelf_side (F.files shelf.new) (F.counts shelf.new)) (sink_side (K.taken sink.old) (K.faults sink.old)) (sink_side (K.taken sink.new) (K.faults sink.new)))
-        (λ status. Broke status (ended_lines line.old.items bytes.now) (shelf_side (F.files shelf.old) (F.counts shelf.old)) (shelf_side (F.files shelf.new) (F.counts shelf.new)) (sink_side (K.taken sink.old) (K.faults sink.old)) (sink_side (K.taken sink.new) (K.faults sink.new))) }
+) -> Result<Flow, Status>
+    ensures { MatchResult result
+        (λ flow. Fed flow line.old.items bytes.now line.new.items session.old session.new (shelf_side (F.files shelf.old) (F.counts shelf.old)) (shelf_side (F.files shelf.new) (F.counts shelf.new)) (sink_side (K.taken sink.old) (K.faults sink.old)) (sink_side (K.taken sink.new) (K.faults sink.new)))
+        (λ status. Broke status (up_to_quit (ended_lines line.old.items bytes.now)) session.old (shelf_side (F.files shelf.old) (F.counts shelf.old)) (shelf_side (F.files shelf.new) (F.counts shelf.new)) (sink_side (K.taken sink.old) (K.faults sink.old)) (sink_side (K.taken sink.new) (K.faults sink.new))) }
 {
     for byte in bytes {
-        accept(alloc, *byte, line, shelf, sink)?;
+        match accept(alloc, *byte, line, session, shelf, sink)? {
+            Flow::GoesOn => {},
+            Flow::Quits => return Ok(Flow::Quits),
+        }
     }
-    Ok(())
+    Ok(Flow::GoesOn)
 }
 
 /// The same for one byte.
@@ -39,21 +44,27 @@ fn accept<F: Shelf, K: Sink>(
     alloc: Global,
     byte: u8,
     line: &mut Vec<u8>,
+    session: &mut Session,
     shelf: &mut F,
     sink: &mut K,
-) -> Result<(), Status>
-    ensures kept { OnOk result (line.new.items ≡ fed_kept line.old.items (byte ∷ [])) }
-    ensures lines { MatchResult result
-        (λ _. Did (ended_lines line.old.items (byte ∷ [])) (shelf_side (F.files shelf.old) (F.counts shelf.old)) (shelf_side (F.files shelf.new) (F.counts shelf.new)) (sink_side (K.taken sink.old) (K.faults sink.old)) (sink_side (K.taken sink.new) (K.faults sink.new)))
-        (λ status. Broke status (ended_lines line.old.items (byte ∷ [])) (shelf_side (F.files shelf.old) (F.counts shelf.old)) (shelf_side (F.files shelf.new) (F.counts shelf.new)) (sink_side (K.taken sink.old) (K.faults sink.old)) (sink_side (K.taken sink.new) (K.faults sink.new))) }
+) -> Result<Flow, Status>
+    ensures { MatchResult result
+        (λ flow. Fed flow line.old.items (byte ∷ []) line.new.items session.old session.new (shelf_side (F.files shelf.old) (F.counts shelf.old)) (shelf_side (F.files shelf.new) (F.counts shelf.new)) (sink_side (K.taken sink.old) (K.faults sink.old)) (sink_side (K.taken sink.new) (K.faults sink.new)))
+        (λ status. Broke status (up_to_quit (ended_lines line.old.items (byte ∷ []))) session.old (shelf_side (F.files shelf.old) (F.counts shelf.old)) (shelf_side (F.files shelf.new) (F.counts shelf.new)) (sink_side (K.taken sink.old) (K.faults sink.old)) (sink_side (K.taken sink.new) (K.faults sink.new))) }
 {
     if byte != b'\n' {
         keep(line, byte)?;
-        return Ok(());
+        return Ok(Flow::GoesOn);
     }
-    respond(alloc, without_carriage_return(line.as_slice()), shelf, sink)?;
+    let flow = respond(
+        alloc,
+        without_carriage_return(line.as_slice()),
+        session,
+        shelf,
+        sink,
+    )?;
     line.clear();
-    Ok(())
+    Ok(flow)
 }
 
 /// Keeps one more byte of a line, unless enough of it is kept.
@@ -73,23 +84,5 @@ fn without_carriage_return(line: &[u8]) -> &[u8]
     match line {
         [front @ .., b'\r'] => front,
         _ => line,
-    }
-}
-
-/// Does what a line asks for, and writes its reply.
-pub fn respond<F: Shelf, K: Sink>(
-    alloc: Global,
-    line: &[u8],
-    shelf: &mut F,
-    sink: &mut K,
-) -> Result<(), Status>
-    ensures { MatchResult result
-        (λ _. Did (line.now ∷ []) (shelf_side (F.files shelf.old) (F.counts shelf.old)) (shelf_side (F.files shelf.new) (F.counts shelf.new)) (sink_side (K.taken sink.old) (K.faults sink.old)) (sink_side (K.taken sink.new) (K.faults sink.new)))
-        (λ status. Broke status (line.now ∷ []) (shelf_side (F.files shelf.old) (F.counts shelf.old)) (shelf_side (F.files shelf.new) (F.counts shelf.new)) (sink_side (K.taken sink.old) (K.faults sink.old)) (sink_side (K.taken sink.new) (K.faults sink.new))) }
-{
-    let text = answer(alloc, line, shelf)?;
-    match write_all(sink, text.as_slice()) {
-        Ok(()) => Ok(()),
-        Err(_) => Err(Status::WriteFault),
     }
 }

@@ -1,12 +1,12 @@
-//! The whole program over an outside that is handed in: it reads command lines from a source, asks a
-//! shelf for class files, and writes each reply to a sink.
+//! The whole program over an outside that is handed in: it reads command lines from a source, runs them
+//! in a session, which asks a shelf for class files, and writes each reply to a sink.
 #![tactic(auto)]
 
-mod answer;
-mod call;
 mod conversation;
 mod feed;
+mod flow;
 mod program;
+mod response;
 mod status;
 mod sure;
 

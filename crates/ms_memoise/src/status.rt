@@ -1,12 +1,13 @@
 ghost use Rattle.std.specs.Prelude.{◌≡◌};
 ghost use Rattle.ms_memoise.specs.Statuses.{code_of};
 
+use ms_session::Stop;
 use ms_words::NoMemory;
 
 /// How a run of the program ended.
 #[derive(Clone, Copy, Debug, PartialEq, Eq)]
 pub enum Status {
-    /// The input was read to its end, and each reply was written.
+    /// The input was read to its end or to the first `quit`, and each reply was written.
     Done,
     /// There were words on the command line, and the program takes none.
     Usage,
@@ -18,7 +19,7 @@ pub enum Status {
     NoMemory,
     /// The shelf failed.
     ShelfFault,
-    /// More than 4,294,967,295 bytes came.
+    /// More than 4,294,967,295 bytes came, and no `quit` is among the lines that the first ones end.
     TooMuchInput,
 }
 
@@ -61,5 +62,19 @@ impl From<NoMemory> for Status {
 
     fn from(_: NoMemory) -> Status {
         Status::NoMemory
+    }
+}
+
+impl From<Stop> for Status {
+    ghost use Rattle.ms_memoise.specs.Feeding.{status_of};
+
+    ghost from_gives = { λ stop status. status ≡ status_of stop };
+
+    fn from(stop: Stop) -> Status {
+        match stop {
+            Stop::ShelfFault => Status::ShelfFault,
+            Stop::WriteFault => Status::WriteFault,
+            Stop::NoMemory => Status::NoMemory,
+        }
     }
 }

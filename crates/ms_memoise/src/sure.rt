@@ -1,5 +1,6 @@
-ghost use Rattle.std.specs.Prelude.{◌≡◌, ◌≤◌, ◌⊎◌, ◌++◌, [], length};
-ghost use Rattle.ms_memoise.specs.Events.{replies};
+ghost use Rattle.std.specs.Prelude.{◌≡◌, ◌≤◌, ◌⊎◌, ◌++◌, [], length, IsTrue};
+ghost use Rattle.std.specs.Str.Lines.{lines};
+ghost use Rattle.ms_memoise.specs.Events.{has_quit, replies};
 
 use crate::program::memoise;
 use crate::status::Status;
@@ -16,8 +17,9 @@ pub fn memoise_sure(
 ) -> Status
     requires { length source.old ≤ 4294967295 }
     ensures done { (result ≡ Status.Done) ⊎ (result ≡ Status.NoMemory) }
-    // All of it was read, and the replies to its lines were written.
-    ensures end { result ≡ Status.Done → source.new ≡ [] }
+    // All of it was read, or a quit is among its lines; and the replies to its lines up to the first quit
+    // were written.
+    ensures end { result ≡ Status.Done → (source.new ≡ []) ⊎ IsTrue (has_quit (lines source.old)) }
     ensures replies { result ≡ Status.Done → sink.new ≡ sink.old ++ replies shelf.old.files source.old }
 {
     memoise(alloc, &[], source, shelf, sink)

@@ -1,15 +1,21 @@
-ghost use Rattle.std.specs.Prelude.{◌≡◌, ◌∷◌, ◌++◌, ◌<◌, ◌≤◌, [], length, OnOk, OnErr};
+ghost use Rattle.std.specs.Prelude.{◌≡◌, ◌∷◌, ◌++◌, ◌<◌, ◌≤◌, ◌==◌, [], length, IfOk, OnOk, OnErr};
+ghost use Rattle.std.proofs.Common.{rules};
+ghost use Rattle.std.specs.Cmp.{partial_order_from_own_ties};
+ghost use Rattle.std.specs.Cmp.Lexicographic.{pointwise, slice_cmp};
+ghost use Rattle.std.specs.Cmp.Rules.{comparing};
+ghost use Rattle.std.specs.Ordering.{as_partial_cmp, nat_cmp};
 
 use ms_words::NoMemory;
 use smallvec::SmallVec;
 use std::alloc::Global;
+use std::cmp::Ordering;
 use std::marker::Model;
 
 /// How many arms of a string are kept without an allocation.
 const INLINE: usize = 16;
 
 /// The arms of the choices on a path, in order: at most 256, each from 0 to 65,535. Short strings take
-/// no memory.
+/// no memory. Strings are ordered arm by arm, and one comes before those that it begins.
 #[derive(Debug, Drop)]
 pub struct ChoiceString {
     arms: SmallVec<u16, INLINE>,
@@ -51,5 +57,62 @@ impl ChoiceString {
         ensures few { length self.now ≤ 256 }
     {
         self.arms.as_slice()
+    }
+
+    /// The same string once more. It fails for want of memory alone.
+    pub fn copy(&self, alloc: Global) -> Result<ChoiceString, NoMemory>
+        ensures { IfOk result (λ string. string ≡ self.now) }
+    {
+        Ok(ChoiceString {
+            arms: SmallVec::from_slice(alloc, self.arms())?,
+        })
+    }
+
+    /// The string followed by this arm. It fails for want of memory alone.
+    pub fn with(&self, alloc: Global, arm: u16) -> Result<ChoiceString, NoMemory>
+        requires { length self.now < 256 }
+        ensures { IfOk result (λ string. string ≡ self.now ++ arm ∷ []) }
+    {
+        let mut string = self.copy(alloc)?;
+        string.push(arm)?;
+        Ok(string)
+    }
+}
+
+impl PartialEq for ChoiceString {
+    ghost eq = { pointwise ◌==◌ };
+
+    ghost laws = { Prim.search (comparing, rules) };
+
+    fn eq(&self, other: &ChoiceString) -> bool {
+        self.arms() == other.arms()
+    }
+}
+
+impl Eq for ChoiceString {
+    ghost laws = { Prim.search (comparing, rules) };
+}
+
+impl PartialOrd for ChoiceString {
+    ghost partial_cmp = { as_partial_cmp (slice_cmp nat_cmp) };
+
+    ghost laws = { partial_order_from_own_ties (Prim.search (comparing, rules)) (Prim.search (comparing, rules)) };
+
+    fn partial_cmp(&self, other: &ChoiceString) -> Option<Ordering> {
+        Some(self.cmp(other))
+    }
+}
+
+impl Ord for ChoiceString {
+    ghost cmp = { slice_cmp nat_cmp };
+
+    ghost total = { Prim.search (comparing, rules) };
+
+    ghost matches_partial_cmp = { Prim.search (comparing, rules) };
+
+    ghost matches_eq = { Prim.search (comparing, rules) };
+
+    fn cmp(&self, other: &ChoiceString) -> Ordering {
+        self.arms().cmp(&other.arms())
     }
 }

@@ -21,4 +21,6 @@ mod paced;
 #[cfg(test)]
 mod running;
 #[cfg(test)]
+mod session;
+#[cfg(test)]
 mod worked;

@@ -1,6 +1,7 @@
 //! Runs of the program over devices in memory.
 
 use crate::paced::{PacedSink, PacedSource};
+use crate::worked::changed;
 use ms_memoise::{MOST_INPUT, Status, converse, memoise};
 use ms_outside::{MemoryShelf, MemorySink, MemorySource, Shelved};
 use std::alloc::{AllocError, Global};
@@ -32,13 +33,22 @@ fn only(alloc: Global, number: u32) -> Result<Vec<u32>, AllocError> {
     Vec::from_slice(alloc, &[number])
 }
 
-/// A shelf with this file under the name T.class, whose fetch of this number fails.
-fn shelf(alloc: Global, file: &[u8], fetch: u32) -> Result<MemoryShelf, AllocError> {
-    let name = Vec::from_slice(alloc, b"T.class")?;
+/// A file under a name.
+fn shelved(alloc: Global, name: &[u8], file: &[u8]) -> Result<Shelved, AllocError> {
+    let name = Vec::from_slice(alloc, name)?;
     let bytes = Vec::from_slice(alloc, file)?;
+    Ok(Shelved::new(name, bytes))
+}
+
+/// A shelf with this file under the name T.class, the worked class under the name V in V.class, and no
+/// bytes in W.class. Its fetch of this number fails.
+fn shelf(alloc: Global, file: &[u8], fetch: u32) -> Result<MemoryShelf, AllocError> {
+    let other = changed(alloc, &[(13, 1, b"V")])?;
     let fails = only(alloc, fetch)?;
     let mut files = Vec::new(alloc);
-    files.push(Shelved::new(name, bytes))?;
+    files.push(shelved(alloc, b"T.class", file)?)?;
+    files.push(shelved(alloc, b"V.class", other.as_slice())?)?;
+    files.push(shelved(alloc, b"W.class", b"")?)?;
     Ok(MemoryShelf::new(files, fails))
 }
 

@@ -1,6 +1,6 @@
 ghost use Rattle.std.specs.Prelude.{◌≡◌, map};
 ghost use Rattle.ms_classfile.specs.Reading as reading;
-ghost use Rattle.ms_classfile.specs.Found.{LeadsBehind, entry_view};
+ghost use Rattle.ms_classfile.specs.Found.{Finds, LeadsBehind, entry_view};
 
 use super::failure::Refused;
 use super::parts::PoolEntry;
@@ -28,10 +28,11 @@ pub fn header(cursor: &mut Cursor<'_>) -> Result<(), Refused>
     Ok(())
 }
 
-/// Reads the class's flags, its name, which no throwable has, and its parent, java/lang/Object.
+/// Reads the class's flags, its name, which no throwable has, and its parent, java/lang/Object. It gives
+/// the name.
 #[tactic(auto, unfolding(crate::specs::Reading::class_part_at))]
-pub fn class_part(pool: &[PoolEntry<'_>], cursor: &mut Cursor<'_>) -> Result<(), Refused>
-    ensures { LeadsBehind result cursor.new (reading.class_part_at (map entry_view pool.now) cursor.old) }
+pub fn class_part<'a>(pool: &[PoolEntry<'a>], cursor: &mut Cursor<'a>) -> Result<&'a [u8], Refused>
+    ensures { Finds (λ name. name.now) result cursor.new (reading.class_part_at (map entry_view pool.now) cursor.old) }
 {
     let _access = cursor.u2()?;
     let this_class = cursor.u2()?;
@@ -41,7 +42,7 @@ pub fn class_part(pool: &[PoolEntry<'_>], cursor: &mut Cursor<'_>) -> Result<(),
     if thrown_named(name).is_some() || parent != b"java/lang/Object".as_slice() {
         return Err(Refused);
     }
-    Ok(())
+    Ok(name)
 }
 
 /// Reads how many interfaces, fields and methods there are: none, none and one.

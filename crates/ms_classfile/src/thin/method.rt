@@ -66,14 +66,15 @@ fn signature(descriptor: &[u8]) -> Option<(Kinds, Kind)>
     Some((kinds, result))
 }
 
-/// The method (JVMS SE 8, section 4.6).
+/// The method of the class of this name (JVMS SE 8, section 4.6).
 #[tactic(auto, unfolding(crate::specs::Reading::method_at))]
 pub fn method<'a>(
     alloc: Global,
     pool: &[PoolEntry<'a>],
+    class: &'a [u8],
     cursor: &mut Cursor<'a>,
 ) -> Result<ThinMethod<'a>, Failure>
-    ensures { Leads view result cursor.new (method_at (map entry_view pool.now) cursor.old) }
+    ensures { Leads view result cursor.new (method_at (map entry_view pool.now) class.now cursor.old) }
 {
     let access = cursor.u2()?;
     let name_number = cursor.u2()?;
@@ -88,6 +89,7 @@ pub fn method<'a>(
     let attribute = code_attribute(pool, &attributes).ok_or(Failure::NotThin)?;
     let (max_stack, instructions) = code(alloc, pool, kinds.get().len(), attribute.content)?;
     Ok(ThinMethod {
+        class,
         name,
         descriptor,
         kinds,

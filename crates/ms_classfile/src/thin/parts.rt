@@ -26,10 +26,12 @@ pub struct Limits {
     pub max_locals: u16,
 }
 
-/// A thin method, as its file has it. Its name and its descriptor are lent from the file's bytes
-/// (JVMS SE 8, section 4.6).
+/// A thin method, as its file has it. The name of its class, its name and its descriptor are lent from
+/// the file's bytes (JVMS SE 8, section 4.6).
 #[derive(Debug, Drop)]
 pub struct ThinMethod<'a> {
+    /// The name of its class, in the bytes of its Utf8 entry.
+    pub class: &'a [u8],
     /// The method's name, in the bytes of its Utf8 entry.
     pub name: &'a [u8],
     /// The descriptor, with `Z` for boolean and `I` for int (JVMS SE 8, section 4.3.3).

@@ -1,7 +1,5 @@
-use Rattle.std.proofs.Common.{rules, take, ◌≡◌, ap, Some, pos, true, w64}
+use Rattle.std.proofs.Common.{rules, ℕ, take, ◌≡◌, ap, Some, true}
 use Rattle.std.proofs.lemmas.List.{take_all}
-use Rattle.std.proofs.lemmas.Int.{ints}
-use mir.Val.{to_z}
 use Rattle.std.specs.Char.{is_ascii_digit}
 use Rattle.std.specs.List.{list_all}
 use Rattle.std.specs.Str.Parse.{digits_value}
@@ -19,5 +17,4 @@ returns c =
     let whole : take c.loop-byte.byte-index c.args.text.now ≡ c.args.text.now = take_all _ _ c.loop-byte-test.false in
     let read : list_all is_ascii_digit c.args.text.now ≡ true = rw whole at c.loop-byte.invariant.read in
     let value : c.loop-byte.value ≡ digits_value 10 c.args.text.now = rw whole at c.loop-byte.invariant.value in
-    let signed : to_z w64 c.loop-byte.value ≡ pos c.loop-byte.value = search (rules, ints) in
-    rw (read, signed) (ap (λ n. Some (pos n)) value)
+    record { value = rw read (ap (λ (n : ℕ). Some n) value); small = search rules }

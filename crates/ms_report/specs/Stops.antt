@@ -1,0 +1,21 @@
+-- How a report ends: its totals, or what stopped it.
+use Rattle.std.specs.Prelude.{◌≡◌, ℕ, List, not}
+use Rattle.std.specs.List.{count_by}
+use Rattle.ms_outside.specs.Counts.{Rose}
+use Rattle.ms_trie.specs.declared.row.PathRow.{PathRow}
+use Rattle.ms_report.specs.declared.report.Totals.{Totals}
+use Rattle.ms_report.specs.declared.report.ReportStop.{ReportStop}
+use Rattle.ms_report.specs.declared.report.ReportStop.TheVariants.{WriteFault, NoMemory}
+use Rattle.ms_report.specs.Rows.{is_path}
+
+-- how many of the rows are paths, and how many are not
+abbrev pub totals_of : List PathRow → Totals
+totals_of rows = record {
+  paths = count_by (λ row. is_path row.outcome) rows;
+  undecided = count_by (λ row. not (is_path row.outcome)) rows;
+}
+
+-- the sink's count of faults rose where a write failed, and stayed where memory ran out
+abbrev pub HasStopped : ReportStop → ℕ → ℕ → Type 0
+HasStopped WriteFault before now = Rose before now
+HasStopped NoMemory before now = now ≡ before

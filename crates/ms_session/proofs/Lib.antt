@@ -1,0 +1,11 @@
+pub mod Lists
+pub mod Depths
+pub mod Growth
+pub mod Sets
+pub mod Settling
+pub mod Inputs
+pub mod Entries
+pub mod Writing
+pub mod Called
+pub mod Sessions
+mod Example

@@ -1,0 +1,11 @@
+pub mod Strings
+pub mod Paths
+pub mod Known
+pub mod Growing
+pub mod Walking
+pub mod States
+pub mod Steps
+pub mod Outside
+pub mod Commands
+pub mod Sessions
+pub mod Writing

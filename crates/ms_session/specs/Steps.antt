@@ -1,0 +1,171 @@
+-- What a command does to a session: its reply, the state then, and how often it asks. It is a function of
+-- the state, the command, and the shelf's answers to the names of files in it.
+use Rattle.std.specs.Prelude.{ℕ, List, [], ◌∷◌, ◌++◌, length, Bool, ◌&&◌, not, if◌then◌else◌, Option, Some, None, is_some, codes, ℤ}
+use Rattle.std.specs.List.{list_all}
+use Rattle.std.specs.Str.{bytes_eq}
+use Rattle.ms_words.specs.declared.end.PathEnd.{PathEnd}
+use Rattle.ms_words.specs.Inputs.{are_of}
+use Rattle.ms_outside.specs.Shelves as shelves
+use Rattle.ms_outside.specs.Shelves.{Answer}
+use Rattle.ms_command.specs.declared.command.Command.{Command}
+use Rattle.ms_command.specs.declared.command.Command.TheVariants as commands
+use Rattle.ms_command.specs.declared.reply.Reply.{Reply}
+use Rattle.ms_command.specs.declared.reply.Reply.TheVariants as replies
+use Rattle.ms_command.specs.Texts.{end_text, reply_text}
+use Rattle.ms_trie.specs.declared.row.PathRow.{PathRow}
+use Rattle.ms_report.specs.Rows.{rows_text}
+use Rattle.ms_report.specs.Stops.{totals_of}
+use Rattle.ms_classfile.specs.ThinFile.{Method}
+use Rattle.ms_classfile.specs.Reading.{thin_method}
+use Rattle.ms_machine.specs.Control.{Program}
+use Rattle.ms_machine.specs.Runs.{end_of}
+use Rattle.ms_jvm.specs.Ends.{path_end_of}
+use Rattle.ms_jvm.specs.Programs.{program_of}
+use Rattle.ms_session.specs.Paths.{input_with, report}
+use Rattle.ms_session.specs.Known.{Explored, Known, explore, first_needing, nothing_known}
+use Rattle.ms_session.specs.States.{State, class_named, entry_name, is_boolean}
+
+-- what is written, the state then, and the number of asks
+pub record Next : Type 0 where
+  pub text : List ℕ
+  pub state : State
+  pub asks : ℕ
+
+-- a reply alone: nothing changes
+abbrev pub reply_alone : State → Reply → Next
+reply_alone state reply = record { text = reply_text reply; state = state; asks = 0 }
+
+-- a command that changed the state
+abbrev pub replies_and : State → Reply → Next
+replies_and state reply = record { text = reply_text reply; state = state; asks = 0 }
+
+-- ---- once FILE NAME DESC WORD..
+
+-- whether the method has this name and this descriptor, and the words are one of its kind for each parameter
+abbrev pub is_called_so : Method → List ℕ → List ℕ → List ℤ → Bool
+is_called_so method name desc words = bytes_eq method.name name && bytes_eq method.descriptor desc && are_of method.kinds words
+
+-- the most choices of a run of `once`
+abbrev pub once_depth : ℕ
+once_depth = 256
+
+-- How the run of the method on these words ends, to that depth: it returns a word or is cut. A run of a
+-- thin method has no other end, by the law `thin_methods_end` of the interpreter.
+unfoldable pub once_end : Method → List ℤ → Option PathEnd
+once_end method words = path_end_of (end_of (program_of method) (input_with (program_of method) words) once_depth)
+
+-- the reply to a run that ended so
+abbrev pub run_reply : Option PathEnd → Reply
+run_reply None = replies.NotBuilt
+run_reply (Some end) = replies.Ran (end_text end)
+
+-- the reply where the file has this thin method, or is no thin file, as the grammar of thin files says (`read_thin`)
+abbrev pub method_reply : Option Method → List ℕ → List ℕ → List ℤ → Reply
+method_reply None name desc words = replies.NotBuilt
+method_reply (Some method) name desc words = if is_called_so method name desc words then run_reply (once_end method words) else replies.NotBuilt
+
+-- The reply to `once FILE NAME DESC WORD..`, by the shelf's answer to FILE. It is refused with 3 where
+-- the file is absent. It is refused with 90 where the file is too long or isn't thin, where its method
+-- has another name or another descriptor, and where the words aren't one of its kind for each parameter.
+abbrev pub once_reply : List ℕ → List ℕ → List ℕ → List ℤ → Answer → Reply
+once_reply file name desc words shelves.Absent = replies.Absent file
+once_reply file name desc words shelves.TooLong = replies.NotBuilt
+once_reply file name desc words (shelves.Found bytes) = method_reply (thin_method bytes) name desc words
+
+-- ---- class FILE
+
+-- adds a class where none is present; a class of the same name is known, and a second class isn't built
+abbrev pub class_among : State → Method → List Method → Next
+class_among state class [] =
+    replies_and (record state { classes = class ∷ [] }) (replies.ClassAdded class.class (length state.known.verdicts) (length state.known.segments))
+class_among state class (present ∷ others) = reply_alone state (if bytes_eq present.class class.class then replies.Known class.class else replies.NotBuilt)
+
+abbrev pub class_read : State → Option Method → Next
+class_read state None = reply_alone state replies.NotBuilt
+class_read state (Some class) = class_among state class state.classes
+
+-- `class FILE`, by the shelf's answer to FILE
+abbrev pub class_next : State → List ℕ → Answer → Next
+class_next state file shelves.Absent = reply_alone state (replies.Absent file)
+class_next state file shelves.TooLong = reply_alone state replies.NotBuilt
+class_next state file (shelves.Found bytes) = class_read state (thin_method bytes)
+
+-- ---- entry CLASS NAME DESC
+
+-- whether the method has this name and descriptor, and is no initialiser
+abbrev pub is_entry : Method → List ℕ → List ℕ → Bool
+is_entry method name desc = bytes_eq method.name name && bytes_eq method.descriptor desc && not (bytes_eq name (codes "<clinit>"))
+
+-- sets the entry, and forgets what is known
+abbrev pub entry_set : State → Method → Next
+entry_set state method =
+    if list_all is_boolean method.kinds
+    then replies_and (record state { entry = Some method; known = nothing_known }) (replies.EntrySet (entry_name method))
+    else reply_alone state replies.NotBuilt
+
+abbrev pub entry_next : State → List ℕ → List ℕ → List ℕ → Option Method → Next
+entry_next state class name desc None = reply_alone state (replies.Unknown class)
+entry_next state class name desc (Some method) = if is_entry method name desc then entry_set state method else reply_alone state replies.EntryMissing
+
+-- ---- explore N
+
+-- whether a string still needs settling
+abbrev pub is_unfinished : Program → ℕ → Known → Bool
+is_unfinished P depth known = is_some (first_needing P depth known)
+
+abbrev pub how_far : Program → ℕ → Known → List ℕ
+how_far P depth known = if is_unfinished P depth known then codes "unfinished" else codes "finished"
+
+abbrev pub explored_next : State → Program → Explored → Next
+explored_next state P e = record {
+  text = reply_text (replies.Explored e.settled e.asks (how_far P state.depth e.known));
+  state = record state { known = e.known };
+  asks = e.asks;
+}
+
+abbrev pub explore_next : State → ℕ → Option Method → Next
+explore_next state n None = reply_alone state replies.NoEntry
+explore_next state n (Some method) = explored_next state (program_of method) (explore (program_of method) state.depth n state.known)
+
+-- ---- report
+
+abbrev pub reported : List PathRow → List ℕ
+reported rows = rows_text rows ++ reply_text (replies.Reported (totals_of rows).paths (totals_of rows).undecided)
+
+abbrev pub report_of : State → Program → Next
+report_of state P =
+    if is_unfinished P state.depth state.known
+    then reply_alone state replies.Unfinished
+    else record { text = reported (report P state.depth); state = state; asks = 0 }
+
+abbrev pub report_next : State → Option Method → Next
+report_next state None = reply_alone state replies.NoEntry
+report_next state (Some method) = report_of state (program_of method)
+
+-- ---- ALL COMMANDS
+
+-- with the one answer to a command that names a file
+abbrev pub with_answer : State → List Answer → (Answer → Next) → Next
+with_answer state [] go = record { text = []; state = state; asks = 0 }
+with_answer state (answer ∷ answers) go = go answer
+
+abbrev pub next : State → Command → List Answer → Next
+next state commands.Nothing answers = record { text = []; state = state; asks = 0 }
+next state (commands.Once file name desc words) answers = with_answer state answers (λ answer. reply_alone state (once_reply file name desc words answer))
+next state (commands.Class file) answers = with_answer state answers (class_next state file)
+next state (commands.Entry class name desc) answers = entry_next state class name desc (class_named state.classes class)
+next state (commands.Depth depth) answers = replies_and (record state { depth = depth }) (replies.DepthSet depth)
+next state (commands.Explore n) answers = explore_next state n state.entry
+next state commands.Report answers = report_next state state.entry
+next state commands.Quit answers = reply_alone state replies.Quitting
+
+-- the names of files that a command asks the shelf for, in order
+abbrev pub names_in : Command → List (List ℕ)
+names_in commands.Nothing = []
+names_in (commands.Once file name desc words) = file ∷ []
+names_in (commands.Class file) = file ∷ []
+names_in (commands.Entry class name desc) = []
+names_in (commands.Depth depth) = []
+names_in (commands.Explore n) = []
+names_in commands.Report = []
+names_in commands.Quit = []
