@@ -53,8 +53,8 @@ depth_of (depth ∷ extra ∷ more) = Err NoCommand
 -- `explore N`, behind its first word
 abbrev pub explore_of : List (List ℕ) → Result Command Reply
 explore_of [] = Err NoCommand
-explore_of (asks ∷ []) = ranged 1 1000000 Explore (numeral_value asks)
-explore_of (asks ∷ extra ∷ more) = Err NoCommand
+explore_of (most ∷ []) = ranged 1 1000000 Explore (numeral_value most)
+explore_of (most ∷ extra ∷ more) = Err NoCommand
 
 -- `report` and `quit`, behind their only word
 abbrev pub alone : Command → List (List ℕ) → Result Command Reply

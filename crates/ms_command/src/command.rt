@@ -37,9 +37,9 @@ pub enum Command {
     },
     /// Sets the depth at which paths are cut, from 0 to 256.
     Depth(u16),
-    /// Explores with at most so many asks, from 1 to 1,000,000.
+    /// Settles at most so many strings, from 1 to 1,000,000.
     Explore(u32),
-    /// Reports what was explored.
+    /// Lists the paths.
     Report,
     /// Ends the session.
     Quit,
@@ -48,11 +48,11 @@ pub enum Command {
 /// The greatest depth of a command.
 const MOST_DEPTH: u64 = 256;
 
-/// The least number of asks of a command.
-const FEWEST_ASKS: u64 = 1;
+/// The least number of strings that a command settles.
+const FEWEST_STRINGS: u64 = 1;
 
-/// The greatest number of asks of a command.
-const MOST_ASKS: u64 = 1_000_000;
+/// The greatest number of strings that a command settles.
+const MOST_STRINGS: u64 = 1_000_000;
 
 /// Why a line is no command.
 #[derive(Clone, Copy, Debug, PartialEq, Eq, Drop, Error)]
@@ -64,7 +64,7 @@ pub enum CommandRefusal {
     #[error("no form of a command fits the line")]
     Command,
     /// A form fits the line, and a number is outside its range: a word has 32 bits, a depth is from 0 to
-    /// 256, and a number of asks is from 1 to 1,000,000.
+    /// 256, and a number of strings is from 1 to 1,000,000.
     #[error("a number is outside its range")]
     Range,
     /// Memory ran out.
@@ -183,12 +183,14 @@ fn depth(arguments: &[&[u8]]) -> Result<Command, CommandRefusal>
 fn explore(arguments: &[&[u8]]) -> Result<Command, CommandRefusal>
     ensures { MatchResult result (λ command. explore_of (map (λ token. token.now) arguments.now) ≡ Ok command) (λ refusal. Refuses refusal (explore_of (map (λ token. token.now) arguments.now))) }
 {
-    let [asks] = arguments else {
+    let [most] = arguments else {
         return Err(CommandRefusal::Command);
     };
-    match numeral(asks) {
+    match numeral(most) {
         None => Err(CommandRefusal::Command),
-        Some(asks) if FEWEST_ASKS <= asks && asks <= MOST_ASKS => Ok(Command::Explore(asks as u32)),
+        Some(most) if FEWEST_STRINGS <= most && most <= MOST_STRINGS => Ok(Command::Explore(
+            most as u32,
+        )),
         Some(_) => Err(CommandRefusal::Range),
     }
 }

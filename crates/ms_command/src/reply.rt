@@ -29,7 +29,7 @@ pub enum Reply {
     DepthSet {
         depth: u16,
     },
-    /// `ok explored s asks a W`: the exploration settled so many paths with so many asks, each from 0 to
+    /// `ok explored s asks a W`: the exploration settled so many strings with so many asks, each from 0 to
     /// 4,294,967,295, and W, which is printed as it is, says how it ended.
     Explored {
         settled: u32,
@@ -42,7 +42,7 @@ pub enum Reply {
         paths: u32,
         undecided: u32,
     },
-    /// `ok unfinished`: the exploration isn't at its end, so no report was made.
+    /// `ok unfinished`: a string needs settling, so no report was made.
     Unfinished,
     /// `ok quit`: the session ends.
     Quitting,
@@ -64,7 +64,8 @@ pub enum Reply {
     },
     /// `refused 10 NoEntry`: no entry is set.
     NoEntry,
-    /// `refused 11 EntryMissing`: the class has no method of this name and descriptor.
+    /// `refused 11 EntryMissing`: the class has no method of this name and descriptor that can be an entry.
+    /// An initialiser can't.
     EntryMissing,
     /// `refused 13 Range`: a form of a command fits the line, and a number is outside its range.
     Range,

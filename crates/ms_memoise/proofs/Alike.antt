@@ -1,5 +1,5 @@
 -- Lines that are the same command. What is kept of a line is the same command as the line.
-use Rattle.std.proofs.Common.{◌≡◌, ℕ, zero, suc, ◌+◌, ◌-◌, ◌<◌, ◌≤◌, List, [], ◌∷◌, ◌++◌, length, take, map, ◌==◌, refl, sym, ap, ◌∙◌, subst, subst₂, arith, inl, inr, Some, Err, slice_get, slice_index, Bool, true, false, cond, ◌||◌}
+use Rattle.std.proofs.Common.{◌≡◌, ◌≢◌, ℕ, zero, suc, ◌+◌, ◌-◌, ◌<◌, ◌≤◌, List, [], ◌∷◌, ◌++◌, length, take, map, ◌==◌, refl, sym, ap, ◌∙◌, subst, subst₂, arith, inl, inr, Some, Err, slice_get, slice_index, Bool, true, false, cond, ◌||◌}
 use Rattle.std.proofs.lemmas.List.{take_all, length-take}
 use Rattle.std.proofs.lemmas.Bool.{cases_lt, cond_both, cond-false, lt-leb, ne_eqb, and_left}
 use Rattle.std.specs.List.{AllByRecursion}
@@ -10,6 +10,9 @@ use Rattle.ms_command.specs.Lines.{most_line_bytes}
 use Rattle.ms_command.specs.declared.reply.Reply.TheVariants.{NoLine}
 use Rattle.ms_session.specs.Outside.{AreAnswers, ShelfSide, SinkSide}
 use Rattle.ms_session.specs.States.{State}
+use Rattle.ms_memoise.specs.Conversations.{IsNamedAt}
+use Rattle.ms_session.specs.Steps.{Next}
+use Rattle.ms_memoise.specs.declared.status.Status.TheVariants.{Done, Usage, ReadFault, WriteFault, NoMemory, ShelfFault, TooMuchInput}
 use Rattle.ms_memoise.specs.declared.status.Status.{Status}
 use Rattle.ms_memoise.specs.Events.{Event, IsAnswered, has_quit, is_quit, lines_of, names_of, next_for, next_of, quits, state_after, text_after, up_to_quit}
 use Rattle.ms_memoise.specs.Conversations.{Begun}
@@ -161,8 +164,18 @@ begun_alike xs ys x a b n part alike p =
       event = with_line found.other p.event;
       line = found.there;
       answered = answered_so a b p.event found.other found.same p.answered;
+      some = subst (λ (n : Next). 0 < length n.text) (sym (next_so p.event found.other x found.same)) p.some;
       begins = ap (λ n. take (length part) n.text) (next_so p.event found.other x found.same) ∙ p.begins;
     }
+
+named_alike : (status : Status) (xs ys : List (List ℕ)) (n : ℕ) → Alike xs ys → IsNamedAt status xs n → IsNamedAt status ys n
+named_alike Done xs ys n alike p = tt
+named_alike Usage xs ys n alike p = tt
+named_alike ReadFault xs ys n alike p = tt
+named_alike WriteFault xs ys n alike p = tt
+named_alike NoMemory xs ys n alike p = tt
+named_alike ShelfFault xs ys n alike p = let found = alike_at xs ys n p.line alike p.is in record { line = found.other; is = found.there; names = subst (λ command. names_of command ≢ []) found.same p.names }
+named_alike TooMuchInput xs ys n alike p = tt
 
 pub broke_alike : (status : Status) (xs ys : List (List ℕ)) (x : State) (a b : ShelfSide) (s t : SinkSide) → Alike xs ys → Broke status xs x a b s t → Broke status ys x a b s t
 broke_alike status xs ys x a b s t alike p =
@@ -174,6 +187,7 @@ broke_alike status xs ys x a b s t alike p =
       lines = found.lines ∙ ap (λ m. take m ys) (sym found.many);
       begun = λ h. subst (λ m. Begun (state_after x found.others) a b ys m p.part) (sym found.many)
           (subst (λ y. Begun y a b ys n p.part) (sym (found.states x)) (begun_alike xs ys (state_after x p.events) a b n p.part alike (p.begun h)));
+      named = subst (IsNamedAt status ys) (sym found.many) (named_alike status xs ys n alike p.named);
       answered = found.answered;
       wrote = subst (λ l. Appends s.taken t.taken (l ++ p.part)) (sym (found.texts x)) p.wrote;
       stops = p.stops;

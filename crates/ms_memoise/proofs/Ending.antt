@@ -15,10 +15,10 @@ use Rattle.ms_memoise.specs.declared.flow.Flow.TheVariants as flows
 use Rattle.ms_memoise.specs.declared.conversation.Turn.TheVariants as turns
 use Rattle.ms_memoise.specs.Lines.{whole_lines}
 use Rattle.ms_memoise.specs.Events.{has_quit, lines_of, text_after, up_to_quit}
-use Rattle.ms_memoise.specs.Conversations.{Conversation, Elapses, Exceeds, HasDone, HasCauseOf, Leads, Outside, SourceSide}
+use Rattle.ms_memoise.specs.Conversations.{Conversation, Elapses, Exceeds, HasDone, HasCauseOf, IsNamedAt, IsReachedAt, Leads, Outside, SourceSide}
 use Rattle.ms_memoise.specs.Feeding.{Broke, Did, Fed, ended_lines, fed_kept}
 use Rattle.ms_memoise.specs.Turns.{AtLimit, Finishes, TurnBroke, Turned, last_lines}
-use Rattle.ms_memoise.proofs.Handling.{did_both, did_broke, get_before, length_lines, no_more}
+use Rattle.ms_memoise.proofs.Handling.{did_both, did_broke, get_before, length_lines, named_before, no_more}
 use Rattle.ms_memoise.proofs.Spans.{rose_wider}
 use Rattle.ms_memoise.proofs.UpTo.{up_append, up_both, up_first, up_last, up_none}
 use Rattle.ms_memoise.proofs.Fed.{fed_both, fed_broke}
@@ -96,18 +96,32 @@ elapses : (o q : Outside) → o.source.faults ≤ q.source.faults → Passes o.s
 elapses o q reads passes = record { reads = reads; writes = passes.writes; fetches = passes.on_shelf.fetches; files = passes.on_shelf.files }
 
 -- all of these lines were done
-did_leads : (input : Option (List ℕ)) (all : List (List ℕ)) (y : State) (a b : ShelfSide) (s t : SinkSide) → AreFirst input all → (p : Did all new_state y a b s t)
-    → IfSome input (λ input. Leads a b p.events [] (up_to_quit (lines input)))
-did_leads input all y a b s t are_first p =
+-- a run that ended so wrote all that it began, and no fetch failed
+abbrev IsThrough : Status → Type 0
+IsThrough status = (IsReachedAt status [] → ⊥) × ((all : List (List ℕ)) (n : ℕ) → IsNamedAt status all n)
+
+through_done : IsThrough Done
+through_done = (λ h. omega (arith, h), λ all n. tt)
+
+through_read : IsThrough ReadFault
+through_read = (λ h. omega (arith, h), λ all n. tt)
+
+through_much : IsThrough TooMuchInput
+through_much = (λ h. omega (arith, h), λ all n. tt)
+
+did_leads : (input : Option (List ℕ)) (status : Status) (all : List (List ℕ)) (y : State) (a b : ShelfSide) (s t : SinkSide) → AreFirst input all → IsThrough status → (p : Did all new_state y a b s t)
+    → IfSome input (λ input. Leads status a b p.events [] (up_to_quit (lines input)))
+did_leads input status all y a b s t are_first through p =
     let many : length p.events ≡ length all = sym (length_lines p.events) ∙ ap length p.lines in
     if_some input _ _ are_first (λ input f. record {
       first = p.lines ∙ sym (take-append_seam all f.0) ∙ ap (take (length all)) (sym f.1) ∙ ap (λ n. take n (up_to_quit (lines input))) (sym many);
-      begun = λ h. absurd (omega arith);
+      begun = λ h. absurd (through.0 h);
+      named = through.1 _ _;
     })
 
 conversation_did : (limit : ℕ) (status : Status) (bytes : List ℕ) (all : List (List ℕ)) (y : State) (o q : Outside) → Consumes o.source.left q.source.left bytes → AreFirst (Some bytes) all → AreFirst o.source.left all
-    → Did all new_state y o.shelf q.shelf o.sink q.sink → HasDone limit status q.source.left bytes all [] → HasCauseOf limit status o q → o.source.faults ≤ q.source.faults → Conversation limit o q status
-conversation_did limit status bytes all y o q took are_first are_told p done cause reads =
+    → IsThrough status → Did all new_state y o.shelf q.shelf o.sink q.sink → HasDone limit status q.source.left bytes all [] → HasCauseOf limit status o q → o.source.faults ≤ q.source.faults → Conversation limit o q status
+conversation_did limit status bytes all y o q took are_first are_told through p done cause reads =
     record {
       bytes = bytes;
       events = p.events;
@@ -115,8 +129,8 @@ conversation_did limit status bytes all y o q took are_first are_told p done cau
       took = took;
       wrote = subst (Appends o.sink.taken q.sink.taken) (sym (append-nil (text_after new_state p.events))) p.wrote;
       answered = p.answered;
-      first = did_leads (Some bytes) all y o.shelf q.shelf o.sink q.sink are_first p;
-      told = did_leads o.source.left all y o.shelf q.shelf o.sink q.sink are_told p;
+      first = did_leads (Some bytes) status all y o.shelf q.shelf o.sink q.sink are_first through p;
+      told = did_leads o.source.left status all y o.shelf q.shelf o.sink q.sink are_told through p;
       done = subst (λ l. HasDone limit status q.source.left bytes l []) (sym p.lines) done;
       cause = cause;
       elapses = elapses o q reads p.passes;
@@ -124,13 +138,14 @@ conversation_did limit status bytes all y o q took are_first are_told p done cau
 
 -- some first ones of these lines were done, and then it broke off
 broke_leads : (input : Option (List ℕ)) (status : Status) (all : List (List ℕ)) (a b : ShelfSide) (s t : SinkSide) → AreFirst input all → (p : Broke status all new_state a b s t)
-    → IfSome input (λ input. Leads a b p.events p.part (up_to_quit (lines input)))
+    → IfSome input (λ input. Leads status a b p.events p.part (up_to_quit (lines input)))
 broke_leads input status all a b s t are_first p =
     if_some input _ _ are_first (λ input f. record {
       first = p.lines ∙ sym (take-append-le (length p.events) all f.0 (no_more p.events all p.lines)) ∙ ap (take (length p.events)) (sym f.1);
       begun = λ h.
           let begun = p.begun h in
-          record { event = begun.event; line = ap (λ l. slice_get l (length p.events)) f.1 ∙ get_before all f.0 _ _ begun.line; answered = begun.answered; begins = begun.begins };
+          record { event = begun.event; line = ap (λ l. slice_get l (length p.events)) f.1 ∙ get_before all f.0 _ _ begun.line; answered = begun.answered; some = begun.some; begins = begun.begins };
+      named = subst (λ l. IsNamedAt status l (length p.events)) (sym f.1) (named_before status all f.0 _ p.named);
     })
 
 conversation_broke : (limit : ℕ) (status : Status) (bytes : List ℕ) (all : List (List ℕ)) (o q : Outside) → Consumes o.source.left q.source.left bytes → AreFirst (Some bytes) all → AreFirst o.source.left all
@@ -183,7 +198,7 @@ read_failed : (limit left : ℕ) (kept bytes : List ℕ) (x : State) (o p q : Ou
 read_failed limit left kept bytes x o p q s took none rose reads did =
     let took_all : Consumes o.source.left q.source.left s.bytes = subst (Consumes o.source.left q.source.left) (ap (λ l. s.bytes ++ l) none ∙ append-nil s.bytes) (Consumes-trans _ _ _ _ _ s.took took) in
     let done = did_no_more limit left kept x o p q s did in
-    conversation_did limit ReadFault s.bytes (whole_lines s.bytes) x o q took_all (first_no_quit (Some s.bytes) s.bytes done.1 (whole_of s.bytes)) (first_no_quit _ s.bytes done.1 (first_whole _ _ _ took_all)) done.0
+    conversation_did limit ReadFault s.bytes (whole_lines s.bytes) x o q took_all (first_no_quit (Some s.bytes) s.bytes done.1 (whole_of s.bytes)) (first_no_quit _ s.bytes done.1 (first_whole _ _ _ took_all)) through_read done.0
     (omega (arith, s.many), (refl, done.1), refl)
     (rose_wider o.source.faults p.source.faults q.source.faults q.source.faults (omega (arith, s.reads)) (omega arith) rose, done.0.calm.0, done.0.calm.1) (omega (arith, s.reads, reads))
 
@@ -213,7 +228,7 @@ turn_quit limit left kept kept_now x y o p q s t =
     let fed : Fed flows.Quits [] whole kept_now new_state y o.shelf q.shelf o.sink q.sink = fed_both flows.Quits [] s.bytes kept t.bytes kept_now new_state x y _ _ _ _ _ _ s.fed t.fed in
     let some : has_quit (whole_lines whole) ≡ true = sym (same_quit whole) ∙ fed.flows in
     let done = did_whole flows.Quits whole kept_now _ _ _ _ _ _ fed in
-    conversation_did limit Done whole (up_to_quit (whole_lines whole)) y o q took_all (whole_of whole) (first_whole _ _ _ took_all) done
+    conversation_did limit Done whole (up_to_quit (whole_lines whole)) y o q took_all (whole_of whole) (first_whole _ _ _ took_all) through_done done
     (omega (arith, s.many, t.within, length-append s.bytes t.bytes), sym (ap up_to_quit (lines_scanned whole) ∙ up_first (whole_lines whole) (last_lines (scan_rest [] whole)) some), refl, inr some)
     (t.reads ∙ s.reads, done.calm.0, done.calm.1) (omega (arith, s.reads, t.reads))
 
@@ -235,7 +250,7 @@ last_done limit left kept x y o p q s same end did =
     let ended : IsAtEnd q.source.left = subst (λ (side : SourceSide). IsAtEnd side.left) (sym same) end in
     let done = did_alike _ _ new_state y o.shelf q.shelf o.sink q.sink (alike_to_end s.bytes kept _ _ _ _ _ _ s.fed) (did_both _ _ _ _ _ _ _ _ _ _ _ s.fed.did did) in
     let reads : q.source.faults ≡ o.source.faults = ap (λ (side : SourceSide). side.faults) same ∙ s.reads in
-    conversation_did limit Done s.bytes (up_to_quit (lines s.bytes)) y o q took (all_of s.bytes) (first_all _ _ _ took ended) done (omega (arith, s.many), refl, refl, inl ended) (reads, done.calm.0, done.calm.1)
+    conversation_did limit Done s.bytes (up_to_quit (lines s.bytes)) y o q took (all_of s.bytes) (first_all _ _ _ took ended) through_done done (omega (arith, s.many), refl, refl, inl ended) (reads, done.calm.0, done.calm.1)
     (omega (arith, reads))
 
 pub finished : (limit left : ℕ) (status : Status) (kept : List ℕ) (x y : State) (o p q : Outside) → Stands limit left kept x o p → q.source ≡ p.source → IsAtEnd p.source.left
@@ -283,7 +298,7 @@ too_much limit kept bytes x o p q s took one reads did =
     let all_of_it : length s.bytes ≡ limit = omega (arith, s.many) in
     let front : take limit whole ≡ s.bytes = ap (λ n. take n whole) (sym all_of_it) ∙ take-append_seam s.bytes bytes in
     let done = did_no_more limit 0 kept x o p q s did in
-    conversation_did limit TooMuchInput whole (whole_lines s.bytes) x o q took_all (first_no_quit (Some whole) s.bytes done.1 (first_whole (Some whole) (Some bytes) s.bytes refl)) (first_no_quit _ s.bytes done.1 (first_whole _ _ _ s.took)) done.0
+    conversation_did limit TooMuchInput whole (whole_lines s.bytes) x o q took_all (first_no_quit (Some whole) s.bytes done.1 (first_whole (Some whole) (Some bytes) s.bytes refl)) (first_no_quit _ s.bytes done.1 (first_whole _ _ _ s.took)) through_much done.0
     (many, (ap whole_lines (sym front), ap (λ l. has_quit (whole_lines l)) front ∙ done.1), refl)
     ((reads ∙ s.reads, done.0.calm.0, done.0.calm.1), subst (λ n. IfSome o.source.left (Exceeds n)) all_of_it (exceeds _ _ s.bytes bytes took_all (omega arith) done.1)) (omega (arith, s.reads, reads))
 

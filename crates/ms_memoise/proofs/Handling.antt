@@ -1,10 +1,11 @@
 -- Lines that are done one after another.
-use Rattle.std.proofs.Common.{◌≡◌, ℕ, zero, suc, ◌+◌, ◌≤◌, List, [], ◌∷◌, ◌++◌, length, take, refl, sym, ap, ◌∙◌, subst, arith, Some, slice_get, append_assoc, length-append, suc-add}
+use Rattle.std.proofs.Common.{◌≡◌, ℕ, zero, suc, ◌+◌, ◌<◌, ◌≤◌, List, [], ◌∷◌, ◌++◌, length, take, refl, sym, ap, ◌∙◌, subst, arith, Some, slice_get, append_assoc, length-append, suc-add}
 use Rattle.std.specs.List.{AllByRecursion}
 use Rattle.std.specs.Io.KnownBytes.{Appends}
 use Rattle.std.proofs.lemmas.List.{take-append-le, length-take}
 use Rattle.std.proofs.Math.Seq.{take-append-add}
 use Rattle.std.proofs.KnownBytes.{Appends-nil, Appends-trans}
+use Rattle.ms_memoise.specs.Conversations.{IsNamedAt}
 use Rattle.ms_memoise.specs.declared.status.Status.{Status}
 use Rattle.ms_memoise.specs.declared.status.Status.TheVariants.{Done, Usage, ReadFault, WriteFault, NoMemory, ShelfFault, TooMuchInput}
 use Rattle.ms_session.specs.Outside.{Calm, Passes, ShelfSide, SinkSide}
@@ -62,16 +63,17 @@ did_both xs ys x y z a b c s t u p q = record {
   calm = (q.calm.0 ∙ p.calm.0, q.calm.1 ∙ p.calm.1);
 }
 
-pub broke_here : (status : Status) (all : List (List ℕ)) (x : State) (a : ShelfSide) (s : SinkSide) → Stops status a a s s → IsPartAt status [] → Broke status all x a a s s
-broke_here status all x a s stops at_status = record {
+pub broke_here : (all : List (List ℕ)) (x : State) (a : ShelfSide) (s : SinkSide) → Broke NoMemory all x a a s s
+broke_here all x a s = record {
   events = [];
   part = [];
   lines = refl;
   begun = λ h. absurd (omega arith);
+  named = tt;
   answered = tt;
   wrote = Appends-nil s.taken;
-  stops = stops;
-  at_status = at_status;
+  stops = (refl, refl);
+  at_status = tt;
   passes = record { on_shelf = shelf_same a; writes = omega arith };
 }
 
@@ -88,6 +90,24 @@ get_before (x ∷ xs) ys (suc n) line is = get_before xs ys n line is
 get_behind : (xs ys : List (List ℕ)) (n : ℕ) → slice_get (xs ++ ys) (length xs + n) ≡ slice_get ys n
 get_behind [] ys n = ap (slice_get ys) (omega arith)
 get_behind (x ∷ xs) ys n = rw suc-add (get_behind xs ys n)
+
+pub named_before : (status : Status) (xs ys : List (List ℕ)) (n : ℕ) → IsNamedAt status xs n → IsNamedAt status (xs ++ ys) n
+named_before Done xs ys n p = tt
+named_before Usage xs ys n p = tt
+named_before ReadFault xs ys n p = tt
+named_before WriteFault xs ys n p = tt
+named_before NoMemory xs ys n p = tt
+named_before ShelfFault xs ys n p = record { line = p.line; is = get_before xs ys n p.line p.is; names = p.names }
+named_before TooMuchInput xs ys n p = tt
+
+named_behind : (status : Status) (xs ys : List (List ℕ)) (n m : ℕ) → m ≡ length xs + n → IsNamedAt status ys n → IsNamedAt status (xs ++ ys) m
+named_behind Done xs ys n m is p = tt
+named_behind Usage xs ys n m is p = tt
+named_behind ReadFault xs ys n m is p = tt
+named_behind WriteFault xs ys n m is p = tt
+named_behind NoMemory xs ys n m is p = tt
+named_behind ShelfFault xs ys n m is p = record { line = p.line; is = ap (slice_get (xs ++ ys)) is ∙ get_behind xs ys n ∙ p.is; names = p.names }
+named_behind TooMuchInput xs ys n m is p = tt
 
 pub no_more : (events : List Event) (xs : List (List ℕ)) → lines_of events ≡ take (length events) xs → length events ≤ length xs
 no_more events xs lines = omega (arith, length_lines events, ap length lines, length-take (length events) xs)
@@ -108,7 +128,8 @@ broke_before status xs ys x a b s t p = record {
   events = p.events;
   part = p.part;
   lines = p.lines ∙ sym (take-append-le (length p.events) xs ys (no_more p.events xs p.lines));
-  begun = λ h. let begun = p.begun h in record { event = begun.event; line = get_before xs ys _ _ begun.line; answered = begun.answered; begins = begun.begins };
+  begun = λ h. let begun = p.begun h in record { event = begun.event; line = get_before xs ys _ _ begun.line; answered = begun.answered; some = begun.some; begins = begun.begins };
+  named = named_before status xs ys _ p.named;
   answered = p.answered;
   wrote = p.wrote;
   stops = p.stops;
@@ -129,8 +150,10 @@ did_broke status xs ys x y a b c s t u p q =
         event = begun.event;
         line = ap (slice_get (xs ++ ys)) count ∙ get_behind xs ys _ ∙ begun.line;
         answered = answers_wider a b c c _ _ p.passes.on_shelf (shelf_same c) begun.answered;
+        some = subst (λ (z : State). 0 < length (next_of z begun.event).text) (state_from x y p.events q.events p.state_is) begun.some;
         begins = ap (λ z. take (length q.part) (next_of z begun.event).text) (sym (state_from x y p.events q.events p.state_is)) ∙ begun.begins;
       };
+      named = named_behind status xs ys (length q.events) _ count q.named;
       answered = all_append (IsAnswered a c) p.events q.events
           (events_wider a a b c p.events (shelf_same a) q.passes.on_shelf p.answered)
           (events_wider a b c c q.events p.passes.on_shelf (shelf_same c) q.answered);

@@ -1,5 +1,5 @@
 -- What a line does: a command is run, and a line that is none is refused.
-use Rattle.std.proofs.Common.{◌≡◌, ℕ, zero, suc, List, [], ◌∷◌, ◌++◌, length, take, map, refl, sym, ap, ◌∙◌, subst, arith, append-nil, Option, Some, None, IfSome, Result, Ok, Err, MatchResult}
+use Rattle.std.proofs.Common.{◌≡◌, ◌≢◌, ◌<◌, ℕ, zero, suc, List, [], ◌∷◌, ◌++◌, length, take, map, refl, sym, ap, ◌∙◌, subst, arith, append-nil, Option, Some, None, IfSome, Result, Ok, Err, MatchResult}
 use Rattle.std.specs.Io.KnownBytes.{Appends}
 use Rattle.ms_outside.specs.Shelves.{File, answer_of}
 use Rattle.ms_command.specs.declared.command.Command.{Command}
@@ -8,7 +8,9 @@ use Rattle.ms_command.specs.Commands.{command_of}
 use Rattle.ms_command.specs.Texts.{reply_text}
 use Rattle.ms_session.specs.declared.stop.Stop.{Stop}
 use Rattle.ms_session.specs.declared.stop.Stop.TheVariants as stops
-use Rattle.ms_session.specs.Commands.{IsPartFor, StopsFor}
+use Rattle.ms_session.specs.Commands.{AsksAt, IsPartFor, IsReached, StopsFor}
+use Rattle.ms_session.proofs.Writing.{reply_has_text}
+use Rattle.ms_memoise.specs.Conversations.{IsNamedAt, IsReachedAt}
 use Rattle.ms_session.specs.Outside.{AreAnswers, ShelfSide, SinkSide}
 use Rattle.ms_session.specs.States.{State}
 use Rattle.ms_memoise.specs.declared.status.Status.{Status}
@@ -46,17 +48,30 @@ part_at stops.ShelfFault part h = h
 part_at stops.WriteFault part h = h
 part_at stops.NoMemory part h = h
 
+-- there was something to write
+reached : (stop : Stop) (part : List ℕ) → IsReachedAt (status_of stop) part → IsReached stop part
+reached stops.ShelfFault part h = h
+reached stops.WriteFault part h = h
+reached stops.NoMemory part h = h
+
+names_at : (stop : Stop) (line : List ℕ) (command : Command) → command_of line ≡ Ok command → AsksAt stop command → IsNamedAt (status_of stop) (line ∷ []) 0
+names_at stops.ShelfFault line command is asks = record { line = line; is = refl; names = subst (λ c. names_of c ≢ []) (sym is) asks }
+names_at stops.WriteFault line command is asks = tt
+names_at stops.NoMemory line command is asks = tt
+
 halted : (status : Status) (line : List ℕ) (command : Command) (x : State) (a b : ShelfSide) (s t : SinkSide) → command_of line ≡ Ok command → Halted status command x a b s t → Broke status (line ∷ []) x a b s t
 halted status line command x a b s t is h = record {
   events = [];
   part = h.stopped.part;
   lines = refl;
-  begun = λ some. let begins = h.stopped.begun some in record {
+  begun = λ some. let begins = h.stopped.begun (reached h.stop h.stopped.part (subst (λ status. IsReachedAt status h.stopped.part) h.is some)) in record {
     event = record { line = line; answers = begins.answers };
     line = refl;
     answered = subst (λ c. AreAnswers a b (names_of c) begins.answers) (sym is) begins.given;
+    some = subst (λ c. 0 < length (next_for x c begins.answers).text) (sym is) begins.some;
     begins = ap (λ c. take (length h.stopped.part) (next_for x c begins.answers).text) is ∙ begins.first;
   };
+  named = subst (λ status. IsNamedAt status (line ∷ []) 0) (sym h.is) (names_at h.stop line command is h.stopped.asked);
   answered = tt;
   wrote = h.stopped.wrote;
   stops = subst (λ status. Stops status a b s t) (sym h.is) (halts h.stop a b s t h.stopped.stops);
@@ -99,12 +114,12 @@ take_of_take zero xs = refl
 take_of_take (suc n) [] = refl
 take_of_take (suc n) (x ∷ xs) = ap (λ l. x ∷ l) (take_of_take n xs)
 
-hushes : (status : Status) (a : ShelfSide) (s t : SinkSide) (part : List ℕ) → Hushes status s t → Stops status a a s t × IsPartAt status part
+hushes : (status : Status) (a : ShelfSide) (s t : SinkSide) (part : List ℕ) → Hushes status s t → Stops status a a s t × IsPartAt status part × ((all : List (List ℕ)) → IsNamedAt status all 0)
 hushes Done a s t part h = absurd h
 hushes Usage a s t part h = absurd h
 hushes ReadFault a s t part h = absurd h
-hushes WriteFault a s t part h = ((h, refl), tt)
-hushes NoMemory a s t part h = ((refl, h), tt)
+hushes WriteFault a s t part h = ((h, refl), tt, λ all. tt)
+hushes NoMemory a s t part h = ((refl, h), tt, λ all. tt)
 hushes ShelfFault a s t part h = absurd h
 hushes TooMuchInput a s t part h = absurd h
 
@@ -119,8 +134,10 @@ hushed status line reply x a s t is h =
         event = record { line = line; answers = [] };
         line = refl;
         answered = subst (λ c. AreAnswers a a (names_of c) []) (sym is) (no_answers a);
+        some = subst (λ c. 0 < length (next_for x c []).text) (sym is) (reply_has_text reply);
         begins = ap (λ c. take (length part) (next_for x c []).text) is ∙ take_of_take h.many (reply_text reply);
       };
+      named = (hushes status a s t part h.why).2 (line ∷ []);
       answered = tt;
       wrote = h.wrote;
       stops = (hushes status a s t part h.why).0;

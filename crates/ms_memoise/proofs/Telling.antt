@@ -21,8 +21,8 @@ if_some_each : (o : Option (List ℕ)) (Q : List ℕ → Type 0) → ((x : List 
 if_some_each None Q f = tt
 if_some_each (Some x) Q f = f x
 
-nothing_leads : (o : Outside) (input : List ℕ) → Leads o.shelf o.shelf [] [] (up_to_quit (lines input))
-nothing_leads o input = record { first = refl; begun = λ h. absurd (omega arith) }
+nothing_leads : (o : Outside) (input : List ℕ) → Leads Usage o.shelf o.shelf [] [] (up_to_quit (lines input))
+nothing_leads o input = record { first = refl; begun = λ h. absurd (omega arith); named = tt }
 
 -- nothing was read, done or written
 pub conversation_of_usage : (limit : ℕ) (o : Outside) → Conversation limit o o Usage

@@ -1,5 +1,5 @@
 -- Conversations: what the program has read, done and written when it ends.
-use Rattle.std.specs.Prelude.{◌≡◌, ℕ, ◌+◌, ◌<◌, ◌≤◌, ◌⊎◌, List, [], ◌++◌, length, take, Bool, IsFalse, IsTrue, Option, Some, IfSome, slice_get}
+use Rattle.std.specs.Prelude.{◌≡◌, ◌≢◌, ℕ, ◌+◌, ◌<◌, ◌≤◌, ◌⊎◌, List, [], ◌++◌, length, take, Bool, IsFalse, IsTrue, Option, Some, IfSome, slice_get}
 use Rattle.std.specs.List.{AllByRecursion}
 use Rattle.std.specs.Str.Lines.{lines}
 use Rattle.std.specs.Io.KnownBytes.{Appends, Consumes, IsAtEnd}
@@ -9,7 +9,7 @@ use Rattle.ms_session.specs.States.{State, new_state}
 use Rattle.ms_memoise.specs.declared.status.Status.{Status}
 use Rattle.ms_memoise.specs.declared.status.Status.TheVariants.{Done, Usage, ReadFault, WriteFault, NoMemory, ShelfFault, TooMuchInput}
 use Rattle.ms_memoise.specs.Lines.{whole_lines}
-use Rattle.ms_memoise.specs.Events.{Event, IsAnswered, has_quit, lines_of, next_of, state_after, text_after, up_to_quit}
+use Rattle.ms_memoise.specs.Events.{Event, IsAnswered, asked, has_quit, lines_of, next_of, state_after, text_after, up_to_quit}
 
 -- a source at a moment: what it has left, where it tells that, and its count of faults
 pub record SourceSide : Type 0 where
@@ -71,18 +71,46 @@ HasCauseOf limit ShelfFault before now = Rose before.shelf.counts.faults now.she
 HasCauseOf limit TooMuchInput before now = NothingFailed before now × IfSome before.source.left (Exceeds limit)
 
 -- What was written of the reply to the line after those that were done: first bytes of the text of its
--- event, in the state that they led to.
+-- event, in the state that they led to. There is such a text.
 pub record Begun (state : State) (before now : ShelfSide) (all : List (List ℕ)) (done : ℕ) (part : List ℕ) : Type 0 where
   pub event : Event
   pub line : slice_get all done ≡ Some event.line
   pub answered : IsAnswered before now event
+  pub some : 0 < length (next_of state event).text
   pub begins : take (length part) (next_of state event).text ≡ part
+
+-- there was something to write: a write failed, or the sink took some first bytes
+abbrev pub IsReachedAt : Status → List ℕ → Type 0
+IsReachedAt Done part = 0 < length part
+IsReachedAt Usage part = 0 < length part
+IsReachedAt ReadFault part = 0 < length part
+IsReachedAt WriteFault part = Unit {0}
+IsReachedAt NoMemory part = 0 < length part
+IsReachedAt ShelfFault part = 0 < length part
+IsReachedAt TooMuchInput part = 0 < length part
+
+-- the line after those that were done names a file
+pub record NamesNext (all : List (List ℕ)) (done : ℕ) : Type 0 where
+  pub line : List ℕ
+  pub is : slice_get all done ≡ Some line
+  pub names : asked line ≢ []
+
+-- a fetch failed only where the next line names a file
+abbrev pub IsNamedAt : Status → List (List ℕ) → ℕ → Type 0
+IsNamedAt Done all done = Unit {0}
+IsNamedAt Usage all done = Unit {0}
+IsNamedAt ReadFault all done = Unit {0}
+IsNamedAt WriteFault all done = Unit {0}
+IsNamedAt NoMemory all done = Unit {0}
+IsNamedAt ShelfFault all done = NamesNext all done
+IsNamedAt TooMuchInput all done = Unit {0}
 
 -- The lines done are the first ones of these, from a new session on, and what was begun is the reply to
 -- the next one.
-pub record Leads (before now : ShelfSide) (events : List Event) (part : List ℕ) (all : List (List ℕ)) : Type 0 where
+pub record Leads (status : Status) (before now : ShelfSide) (events : List Event) (part : List ℕ) (all : List (List ℕ)) : Type 0 where
   pub first : lines_of events ≡ take (length events) all
-  pub begun : 0 < length part → Begun (state_after new_state events) before now all (length events) part
+  pub begun : IsReachedAt status part → Begun (state_after new_state events) before now all (length events) part
+  pub named : IsNamedAt status all (length events)
 
 -- no more lines are to be done: the source has none left, or a quit is among those that a line feed ends
 abbrev pub IsOver : Option (List ℕ) → List ℕ → Type 0
@@ -118,9 +146,9 @@ pub record Conversation (limit : ℕ) (before now : Outside) (status : Status) :
   pub wrote : Appends before.sink.taken now.sink.taken (text_after new_state events ++ part)
   pub answered : AllByRecursion (IsAnswered before.shelf now.shelf) events
   -- they are the first lines of those bytes, up to a quit
-  pub first : Leads before.shelf now.shelf events part (up_to_quit (lines bytes))
+  pub first : Leads status before.shelf now.shelf events part (up_to_quit (lines bytes))
   -- and of what the source holds, where it tells that
-  pub told : IfSome before.source.left (λ input. Leads before.shelf now.shelf events part (up_to_quit (lines input)))
+  pub told : IfSome before.source.left (λ input. Leads status before.shelf now.shelf events part (up_to_quit (lines input)))
   pub done : HasDone limit status now.source.left bytes (lines_of events) part
   pub cause : HasCauseOf limit status before now
   pub elapses : Elapses before now

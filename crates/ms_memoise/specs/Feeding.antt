@@ -19,7 +19,7 @@ use Rattle.ms_memoise.specs.declared.status.Status.TheVariants.{Done, Usage, Rea
 use Rattle.ms_memoise.specs.declared.flow.Flow.{Flow}
 use Rattle.ms_memoise.specs.declared.flow.Flow.TheVariants.{GoesOn, Quits}
 use Rattle.ms_memoise.specs.Events.{Event, IsAnswered, has_quit, is_quit, lines_of, quits, state_after, text_after, up_to_quit}
-use Rattle.ms_memoise.specs.Conversations.{Begun}
+use Rattle.ms_memoise.specs.Conversations.{Begun, IsNamedAt, IsReachedAt}
 
 -- the most bytes that are kept of a line
 abbrev pub most_kept : ℕ
@@ -127,7 +127,8 @@ pub record Broke (status : Status) (all : List (List ℕ)) (state : State) (shel
   pub events : List Event
   pub part : List ℕ
   pub lines : lines_of events ≡ take (length events) all
-  pub begun : 0 < length part → Begun (state_after state events) shelf shelf_now all (length events) part
+  pub begun : IsReachedAt status part → Begun (state_after state events) shelf shelf_now all (length events) part
+  pub named : IsNamedAt status all (length events)
   pub answered : AllByRecursion (IsAnswered shelf shelf_now) events
   pub wrote : Appends sink.taken sink_now.taken (text_after state events ++ part)
   pub stops : Stops status shelf shelf_now sink sink_now

@@ -1,5 +1,5 @@
 -- What a session does with its entry.
-use Rattle.std.proofs.Common.{◌≡◌, length, take, ℕ, Bool, true, false, List, [], ◌∷◌, Option, Some, None, refl, sym, ap, subst, ◌∙◌, arith}
+use Rattle.std.proofs.Common.{◌≡◌, ◌<◌, length, take, ℕ, Bool, true, false, List, [], ◌∷◌, Option, Some, None, refl, sym, ap, subst, ◌∙◌, arith}
 use Rattle.std.specs.Io.KnownBytes.{Appends}
 use Rattle.std.proofs.KnownBytes.{Appends-nil}
 use Rattle.ms_command.specs.declared.command.Command.{Command}
@@ -11,9 +11,9 @@ use Rattle.ms_outside.specs.Shelves.{Answer, File}
 use Rattle.ms_command.specs.declared.reply.Reply as reply
 use Rattle.ms_command.specs.declared.command.Command.TheVariants as commands
 use Rattle.ms_session.specs.Outside.{AreAnswers, ShelfPasses, ShelfSide, SinkSide}
-use Rattle.ms_session.specs.Commands.{Done, IsPartFor, Stopped, StopsFor}
-use Rattle.ms_session.specs.Writing.{WriteCause, WriteStops}
-use Rattle.ms_session.proofs.Writing.{take_of_take}
+use Rattle.ms_session.specs.Commands.{AsksAt, Begins, Done, IsPartFor, IsReached, Stopped, StopsFor}
+use Rattle.ms_session.specs.Writing.{HasText, WriteCause, WriteStops}
+use Rattle.ms_session.proofs.Writing.{short_take, take_of_take}
 use Rattle.std.specs.Prelude.{ℤ, cond, codes, not, Result, Ok, Err, IfOk, IsOk, IsErr, IfSome, MatchResult}
 use Rattle.std.specs.Str.{bytes_eq}
 use Rattle.std.specs.List.{list_all}
@@ -29,7 +29,7 @@ use Rattle.ms_trie.specs.declared.row.PathRow.{PathRow}
 use Rattle.ms_session.specs.Paths.{report}
 use Rattle.ms_session.specs.States.{State, class_named, is_boolean}
 use Rattle.ms_session.specs.Steps.{entry_next, explore_next, how_far, is_entry, is_unfinished, names_in, next, once_reply, report_next, reported}
-use Rattle.ms_session.specs.Sessions.{FetchCause, FetchStops, IsShort, Leads, Prepared, Says, classes_in, entry_in, listed, output_text}
+use Rattle.ms_session.specs.Sessions.{FetchCause, FetchStops, IsShort, Leads, Prepared, PrepareStops, Says, classes_in, entry_in, listed, output_text}
 
 -- the entry is the method of the file
 pub entry_is : (has_entry : Bool) (file : Option (Vec ℕ)) (bytes : Vec ℕ) (method : Method) → has_entry ≡ true → file ≡ Some bytes → thin_method bytes.items ≡ Some method → entry_in has_entry file ≡ Some method
@@ -74,6 +74,7 @@ done_all command state state_now output shelf shelf_now sink sink_now p wrote st
   given = p.given;
   wrote = subst (Appends sink.taken sink_now.taken) (sym p.leads.text) wrote;
   state_is = sym p.leads.state_is;
+  unasked = p.unasked;
   passes = record { on_shelf = p.passes; writes = omega (arith, steady) };
   calm = (p.calm, steady);
 }
@@ -83,16 +84,24 @@ fetch_stops stops.ShelfFault shelf shelf_now sink cause = ((cause, refl), refl)
 fetch_stops stops.WriteFault shelf shelf_now sink cause = absurd cause
 fetch_stops stops.NoMemory shelf shelf_now sink cause = ((cause, refl), tt)
 
-pub stopped_early : (stop : Stop) (command : Command) (state : State) (shelf shelf_now : ShelfSide) (sink : SinkSide) → FetchStops stop shelf shelf_now → Stopped stop command state shelf shelf_now sink sink
+-- where nothing was written and no write failed, there was nothing to write
+unreached : {X : Type 0} → (stop : Stop) (shelf shelf_now : ShelfSide) → FetchCause stop shelf shelf_now → IsReached stop [] → X
+unreached stops.ShelfFault shelf shelf_now cause h = absurd (omega (arith, h))
+unreached stops.WriteFault shelf shelf_now cause h = absurd cause
+unreached stops.NoMemory shelf shelf_now cause h = absurd (omega (arith, h))
+
+pub stopped_early : (stop : Stop) (command : Command) (state : State) (shelf shelf_now : ShelfSide) (sink : SinkSide) → PrepareStops stop command shelf shelf_now → Stopped stop command state shelf shelf_now sink sink
 stopped_early stop command state shelf shelf_now sink s =
-    let both = fetch_stops stop shelf shelf_now sink s.cause in
+    let both = fetch_stops stop shelf shelf_now sink s.fetch.cause in
     record {
       part = [];
-      begun = λ h. absurd (omega (arith, h));
+      begun = λ h. unreached stop shelf shelf_now s.fetch.cause h;
       wrote = Appends-nil sink.taken;
       stops = both.0;
       at_stop = both.1;
-      passes = record { on_shelf = s.passes; writes = omega arith };
+      asked = s.asked;
+      unasked = s.unasked;
+      passes = record { on_shelf = s.fetch.passes; writes = omega arith };
     }
 
 write_stops : (stop : Stop) (shelf shelf_now : ShelfSide) (sink sink_now : SinkSide) (part : List ℕ) → shelf_now.counts.faults ≡ shelf.counts.faults → WriteCause stop sink.faults sink_now.faults
@@ -101,6 +110,16 @@ write_stops stops.ShelfFault shelf shelf_now sink sink_now part calm cause = abs
 write_stops stops.WriteFault shelf shelf_now sink sink_now part calm cause = ((cause, calm), tt)
 write_stops stops.NoMemory shelf shelf_now sink sink_now part calm cause = ((calm, cause), tt)
 
+write_asks : (stop : Stop) (command : Command) (faults faults_now : ℕ) → WriteCause stop faults faults_now → AsksAt stop command
+write_asks stops.ShelfFault command faults faults_now cause = absurd cause
+write_asks stops.WriteFault command faults faults_now cause = tt
+write_asks stops.NoMemory command faults faults_now cause = tt
+
+has_text : (stop : Stop) (n : ℕ) (text : List ℕ) → HasText stop text → IsReached stop (take n text) → 0 < length text
+has_text stops.ShelfFault n text some h = omega (arith, h, short_take n text)
+has_text stops.WriteFault n text some h = some
+has_text stops.NoMemory n text some h = omega (arith, h, short_take n text)
+
 pub stopped_late : (stop : Stop) (command : Command) (state state_now : State) (output : Output) (shelf shelf_now : ShelfSide) (sink sink_now : SinkSide) → Prepared command state state_now output shelf shelf_now
     → WriteStops stop (output_text output) sink.taken sink_now.taken sink.faults sink_now.faults → Stopped stop command state shelf shelf_now sink sink_now
 stopped_late stop command state state_now output shelf shelf_now sink sink_now p s =
@@ -108,10 +127,12 @@ stopped_late stop command state state_now output shelf shelf_now sink sink_now p
     let both = write_stops stop shelf shelf_now sink sink_now (take s.part.0 text) p.calm s.cause in
     record {
       part = take s.part.0 text;
-      begun = λ h. record { answers = p.answers; given = p.given; first = ap (take (length (take s.part.0 text))) p.leads.text ∙ take_of_take s.part.0 text };
+      begun = λ h. record { answers = p.answers; given = p.given; some = subst (λ (l : List ℕ). 0 < length l) (sym p.leads.text) (has_text stop s.part.0 text s.some h); first = ap (take (length (take s.part.0 text))) p.leads.text ∙ take_of_take s.part.0 text };
       wrote = s.part.1;
       stops = both.0;
       at_stop = both.1;
+      asked = write_asks stop command sink.faults sink_now.faults s.cause;
+      unasked = p.unasked;
       passes = record { on_shelf = p.passes; writes = s.grows };
     }
 
@@ -163,18 +184,20 @@ abbrev pub Replied : Result reply.Reply AllocError → Result Output Stop → Ty
 Replied answer result = MatchResult result (λ output. IfOk answer (λ r. output ≡ Reply r) × IsOk answer) (λ stop. (stop ≡ stops.NoMemory) × IsErr answer)
 
 pub replied_so : (command : Command) (state state_now : State) (answers : List Answer) (before now : ShelfSide) (answer : Result reply.Reply AllocError) (result : Result Output Stop) → Replied answer result
-    → IfOk answer (λ r. Says (next state command answers) r state_now) → AreAnswers before now (names_in command) answers → ShelfPasses before now → now.counts.faults ≡ before.counts.faults
-    → MatchResult result (λ output. Prepared command state state_now output before now) (λ stop. FetchStops stop before now)
-replied_so command state state_now answers before now (Ok r) (Ok output) is says given passes calm = record {
+    → IfOk answer (λ r. Says (next state command answers) r state_now) → AreAnswers before now (names_in command) answers → ShelfPasses before now → now.counts.faults ≡ before.counts.faults → (names_in command ≡ [] → now ≡ before)
+    → MatchResult result (λ output. Prepared command state state_now output before now) (λ stop. PrepareStops stop command before now)
+replied_so command state state_now answers before now (Ok r) (Ok output) is says given passes calm unasked = record {
   answers = answers;
   given = given;
   leads = record { text = says.text ∙ ap output_text (sym is.0); state_is = says.state_is };
   short = subst IsShort (sym is.0) tt;
+  unasked = unasked;
   passes = passes;
   calm = calm;
 }
-replied_so command state state_now answers before now (Err none) (Ok output) is says given passes calm = absurd (let none = is.1 in cc)
-replied_so command state state_now answers before now answer (Err stop) is says given passes calm = subst (λ s. FetchStops s before now) (sym is.0) (record { cause = calm; passes = passes })
+replied_so command state state_now answers before now (Err none) (Ok output) is says given passes calm unasked = absurd (let none = is.1 in cc)
+replied_so command state state_now answers before now answer (Err stop) is says given passes calm unasked =
+    subst (λ s. PrepareStops s command before now) (sym is.0) (record { fetch = record { cause = calm; passes = passes }; asked = tt; unasked = unasked })
 
 pub once_said : (state : State) (file name desc : List ℕ) (words : List ℤ) (answer : Answer) (result : Result reply.Reply AllocError) → IfOk result (λ r. r ≡ once_reply file name desc words answer)
     → IfOk result (λ r. Says (next state (commands.Once file name desc words) (answer ∷ [])) r state)

@@ -1,5 +1,5 @@
 -- What a call did that runs a command, and why it broke off.
-use Rattle.std.specs.Prelude.{◌≡◌, ℕ, ◌<◌, List, [], length, take}
+use Rattle.std.specs.Prelude.{◌≡◌, ◌≢◌, ℕ, ◌<◌, List, [], length, take}
 use Rattle.std.specs.Io.KnownBytes.{Appends}
 use Rattle.ms_outside.specs.Counts.{Rose}
 use Rattle.ms_outside.specs.Shelves.{Answer}
@@ -16,13 +16,16 @@ pub record Done (command : Command) (state state_now : State) (shelf shelf_now :
   pub given : AreAnswers shelf shelf_now (names_in command) answers
   pub wrote : Appends sink.taken sink_now.taken (next state command answers).text
   pub state_is : state_now ≡ (next state command answers).state
+  -- where it names no file, the shelf was not asked
+  pub unasked : names_in command ≡ [] → shelf_now ≡ shelf
   pub passes : Passes shelf shelf_now sink sink_now
   pub calm : Calm shelf shelf_now sink sink_now
 
--- first bytes of the text were written
+-- there is a text, and these are first bytes of it
 pub record Begins (command : Command) (state : State) (shelf shelf_now : ShelfSide) (part : List ℕ) : Type 0 where
   pub answers : List Answer
   pub given : AreAnswers shelf shelf_now (names_in command) answers
+  pub some : 0 < length (next state command answers).text
   pub first : take (length part) (next state command answers).text ≡ part
 
 -- why it broke off: a device failed, whose count rose, and no other one; or memory ran out
@@ -37,11 +40,25 @@ IsPartFor stops.ShelfFault part = part ≡ []
 IsPartFor stops.WriteFault part = Unit {0}
 IsPartFor stops.NoMemory part = Unit {0}
 
+-- a fetch failed only where the command names a file
+abbrev pub AsksAt : Stop → Command → Type 0
+AsksAt stops.ShelfFault command = names_in command ≢ []
+AsksAt stops.WriteFault command = Unit {0}
+AsksAt stops.NoMemory command = Unit {0}
+
+-- there was something to write: a write failed, or the sink took some first bytes
+abbrev pub IsReached : Stop → List ℕ → Type 0
+IsReached stops.ShelfFault part = 0 < length part
+IsReached stops.WriteFault part = Unit {0}
+IsReached stops.NoMemory part = 0 < length part
+
 -- the command broke off: of its text the sink took some first bytes, perhaps none, and nothing else
 pub record Stopped (stop : Stop) (command : Command) (state : State) (shelf shelf_now : ShelfSide) (sink sink_now : SinkSide) : Type 0 where
   pub part : List ℕ
-  pub begun : 0 < length part → Begins command state shelf shelf_now part
+  pub begun : IsReached stop part → Begins command state shelf shelf_now part
   pub wrote : Appends sink.taken sink_now.taken part
   pub stops : StopsFor stop shelf shelf_now sink sink_now
   pub at_stop : IsPartFor stop part
+  pub asked : AsksAt stop command
+  pub unasked : names_in command ≡ [] → shelf_now ≡ shelf
   pub passes : Passes shelf shelf_now sink sink_now

@@ -27,7 +27,7 @@ HasCauseFor before now shelves.Absent = Rose before.counts.misses now.counts.mis
 HasCauseFor before now shelves.TooLong = Rose before.counts.overlong now.counts.overlong
 HasCauseFor before now (shelves.Found bytes) = Unit {0}
 
--- the shelf gave these answers to these names between the two moments
+-- the shelf gave these answers to these names between the two moments, as far as its counts and files tell
 pub record AreAnswers (before now : ShelfSide) (names : List (List ℕ)) (answers : List Answer) : Type 0 where
   -- there is one answer to each name
   pub each : length answers ≡ length names

@@ -1,4 +1,4 @@
--- The state of a session, and what a command does to it.
+-- The state of a session.
 use Rattle.std.specs.Prelude.{ℕ, List, [], ◌∷◌, ◌++◌, Bool, true, false, if◌then◌else◌, Option, Some, None, codes}
 use Rattle.std.specs.Str.{bytes_eq}
 use Rattle.ms_words.specs.declared.kind.Kind.{Kind}
@@ -25,7 +25,7 @@ abbrev pub class_named : List Method → List ℕ → Option Method
 class_named [] name = None
 class_named (class ∷ classes) name = if bytes_eq class.class name then Some class else class_named classes name
 
--- whether a method can be the entry so far: each parameter is boolean
+-- whether a kind is boolean; a method can be the entry so far where each of its parameters is
 abbrev pub is_boolean : Kind → Bool
 is_boolean Z = true
 is_boolean B = false

@@ -31,11 +31,11 @@ pub record Next : Type 0 where
   pub state : State
   pub asks : ℕ
 
--- a reply alone: nothing changes
+-- a reply, where nothing changes
 abbrev pub reply_alone : State → Reply → Next
 reply_alone state reply = record { text = reply_text reply; state = state; asks = 0 }
 
--- a command that changed the state
+-- a reply, and the state that the command led to
 abbrev pub replies_and : State → Reply → Next
 replies_and state reply = record { text = reply_text reply; state = state; asks = 0 }
 

@@ -7,7 +7,7 @@ ghost use Rattle.ms_classfile.specs.Reading.{thin_method};
 ghost use Rattle.std.specs.List.{list_all};
 ghost use Rattle.ms_session.specs.Commands.{Done, Stopped};
 ghost use Rattle.ms_session.specs.Outside.{shelf_side, sink_side};
-ghost use Rattle.ms_session.specs.Sessions.{FetchStops, IsShort, Leads, Prepared, Says, answer_in};
+ghost use Rattle.ms_session.specs.Sessions.{IsShort, Leads, Prepared, PrepareStops, Says, answer_in};
 ghost use Rattle.ms_command.specs.Commands.{IsInRange};
 ghost use Rattle.ms_session.specs.Paths.{first_of};
 ghost use Rattle.ms_session.specs.States as states;
@@ -27,7 +27,8 @@ use ms_words::{Kind, Kinds, Name, NoMemory};
 use std::alloc::{AllocError, Global};
 use std::marker::Model;
 
-/// The most rows of a report, so that they can be counted. More of them would not fit in memory.
+/// The most rows of a report, so that they can be counted. There are no more rows than inputs, which are
+/// at most 256.
 const MOST_ROWS: usize = 4_294_967_295;
 
 /// A session: at most one class, the entry, the depth, and what is known of the entry's strings. It holds
@@ -96,7 +97,7 @@ impl Session {
         requires { IsInRange command.now }
         ensures { MatchResult result
             (λ output. Prepared command.now self.old self.new output (shelf_side (F.files shelf.old) (F.counts shelf.old)) (shelf_side (F.files shelf.new) (F.counts shelf.new)))
-            (λ stop. FetchStops stop (shelf_side (F.files shelf.old) (F.counts shelf.old)) (shelf_side (F.files shelf.new) (F.counts shelf.new))) }
+            (λ stop. PrepareStops stop command.now (shelf_side (F.files shelf.old) (F.counts shelf.old)) (shelf_side (F.files shelf.new) (F.counts shelf.new))) }
     {
         match command {
             Command::Once {

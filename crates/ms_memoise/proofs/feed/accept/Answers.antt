@@ -9,7 +9,7 @@ use Rattle.ms_memoise.proofs.feed.accept.Goals as goal
 pub returns-in_err-keep : goal.returns-in_err-keep
 returns-in_err-keep g c =
     let p = err_from_is_err_and c.from_residual.result c.from_residual.ensures.1 in
-    rw (p.1, p.2) (broke_here _ _ c.args.session.now (shelf_side (g.F.Shelf.files c.args.shelf.now) (g.F.Shelf.counts c.args.shelf.now)) (sink_side (g.K.Sink.taken c.args.sink.now) (g.K.Sink.faults c.args.sink.now)) (refl, refl) tt)
+    rw (p.1, p.2) (broke_here _ c.args.session.now (shelf_side (g.F.Shelf.files c.args.shelf.now) (g.F.Shelf.counts c.args.shelf.now)) (sink_side (g.K.Sink.taken c.args.sink.now) (g.K.Sink.faults c.args.sink.now)))
 
 pub returns-in_err-flow : goal.returns-in_err-flow
 returns-in_err-flow g c =

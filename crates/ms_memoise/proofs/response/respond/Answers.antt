@@ -23,4 +23,4 @@ returns-in-Err-Range g c =
     said_or_hushed c.say-in-Err-Range.result c.args.line.now Range c.args.session.now (shelf_side (g.F.Shelf.files c.args.shelf.now) (g.F.Shelf.counts c.args.shelf.now)) (sink_side (g.K.Sink.taken c.args.sink.now) (g.K.Sink.faults c.args.sink.now)) (sink_side (g.K.Sink.taken c.say-in-Err-Range.new.sink) (g.K.Sink.faults c.say-in-Err-Range.new.sink)) (rw c.in-Err-Range.field-0-is at c.in-Err-Range.ensures.command) c.say-in-Err-Range.ensures
 
 pub returns-in-Err-NoMemory : goal.returns-in-Err-NoMemory
-returns-in-Err-NoMemory g c = broke_here NoMemory _ _ (shelf_side (g.F.Shelf.files c.args.shelf.now) (g.F.Shelf.counts c.args.shelf.now)) (sink_side (g.K.Sink.taken c.args.sink.now) (g.K.Sink.faults c.args.sink.now)) (refl, refl) tt
+returns-in-Err-NoMemory g c = broke_here _ _ (shelf_side (g.F.Shelf.files c.args.shelf.now) (g.F.Shelf.counts c.args.shelf.now)) (sink_side (g.K.Sink.taken c.args.sink.now) (g.K.Sink.faults c.args.sink.now))

@@ -1,17 +1,20 @@
-use Rattle.std.proofs.Common.{◌≡◌, ◌++◌, sym, ap, ◌∙◌}
+use Rattle.std.proofs.Common.{◌≡◌, ◌++◌, sym, ap, ◌∙◌, arith}
+use Rattle.std.proofs.lemmas.List.{length-append}
+use Rattle.ms_report.specs.Stops.{totals_of}
 use Rattle.std.proofs.lemmas.Result.{MatchResult-weaker}
 use Rattle.ms_command.specs.Texts.{reply_text}
 use Rattle.ms_command.specs.declared.reply.Reply.TheVariants.{Reported}
 use Rattle.ms_report.specs.Rows.{rows_text}
 use Rattle.ms_report.specs.declared.report.Totals.{Totals}
 use Rattle.ms_session.specs.Steps.{reported}
-use Rattle.ms_session.proofs.Writing.{part_before, stops_behind, wrote_both}
+use Rattle.ms_session.proofs.Writing.{part_before, reply_has_text, stops_behind, wrote_both}
 use Rattle.ms_session.proofs.output.report.Goals as goal
 
 pub returns-in-Err-WriteFault : goal.returns-in-Err-WriteFault
 returns-in-Err-WriteFault g c = record {
   part = part_before _ _ (rows_text c.args.rows.now) _ c.in-Err-WriteFault.ensures.part;
   cause = rw c.in-Err-WriteFault.field-0-is at c.in-Err-WriteFault.ensures.cause;
+  some = omega (arith, length-append (rows_text c.args.rows.now) (reply_text (Reported (totals_of c.args.rows.now).paths (totals_of c.args.rows.now).undecided)), reply_has_text (Reported (totals_of c.args.rows.now).paths (totals_of c.args.rows.now).undecided));
   grows = c.in-Err-WriteFault.ensures.grows;
 }
 
@@ -19,6 +22,7 @@ pub returns-in-Err-NoMemory : goal.returns-in-Err-NoMemory
 returns-in-Err-NoMemory g c = record {
   part = part_before _ _ (rows_text c.args.rows.now) _ c.in-Err-NoMemory.ensures.part;
   cause = rw c.in-Err-NoMemory.field-0-is at c.in-Err-NoMemory.ensures.cause;
+  some = tt;
   grows = c.in-Err-NoMemory.ensures.grows;
 }
 
