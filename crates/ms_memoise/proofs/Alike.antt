@@ -2,7 +2,6 @@
 use Rattle.std.proofs.Common.{◌≡◌, ◌≢◌, ℕ, zero, suc, ◌+◌, ◌-◌, ◌<◌, ◌≤◌, List, [], ◌∷◌, ◌++◌, length, take, map, ◌==◌, refl, sym, ap, ◌∙◌, subst, subst₂, arith, inl, inr, Some, Err, slice_get, slice_index, Bool, true, false, cond, ◌||◌}
 use Rattle.std.proofs.lemmas.List.{take_all, length-take}
 use Rattle.std.proofs.lemmas.Bool.{cases_lt, cond_both, cond-false, lt-leb, ne_eqb, and_left}
-use Rattle.std.specs.List.{AllByRecursion}
 use Rattle.std.specs.Str.Lines.{strip_carriage_return}
 use Rattle.std.specs.Io.KnownBytes.{Appends}
 use Rattle.ms_command.specs.Commands.{command_of}
@@ -14,7 +13,7 @@ use Rattle.ms_memoise.specs.Conversations.{IsNamedAt}
 use Rattle.ms_session.specs.Steps.{Next}
 use Rattle.ms_memoise.specs.declared.status.Status.TheVariants.{Done, Usage, ReadFault, WriteFault, NoMemory, ShelfFault, TooMuchInput}
 use Rattle.ms_memoise.specs.declared.status.Status.{Status}
-use Rattle.ms_memoise.specs.Events.{Event, IsAnswered, has_quit, is_quit, lines_of, names_of, next_for, next_of, quits, state_after, text_after, up_to_quit}
+use Rattle.ms_memoise.specs.Events.{AreAnswered, Event, IsAnswered, has_quit, is_quit, lines_of, names_of, next_for, next_of, quits, state_after, text_after, up_to_quit}
 use Rattle.ms_memoise.specs.Conversations.{Begun}
 use Rattle.ms_memoise.specs.Feeding.{Broke, Did, most_kept}
 use Rattle.ms_memoise.specs.Turns.{last_lines}
@@ -120,28 +119,32 @@ pub record Relabelled (a b : ShelfSide) (events : List Event) (ys : List (List �
   pub many : length others ≡ length events
   pub texts : (x : State) → text_after x others ≡ text_after x events
   pub states : (x : State) → state_after x others ≡ state_after x events
-  pub answered : AllByRecursion (IsAnswered a b) others
+  pub answered : AreAnswered a b others
 
 answered_so : (a b : ShelfSide) (event : Event) (line : List ℕ) → command_of event.line ≡ command_of line → IsAnswered a b event → IsAnswered a b (with_line line event)
-answered_so a b event line same are = subst (λ command. AreAnswers a b (names_of command) event.answers) same are
+answered_so a b event line same are = record {
+  given = subst (λ command. AreAnswers a b (names_of command) event.answers) same are.given;
+  passes = are.passes;
+  unasked = subst (λ command. names_of command ≡ [] → b ≡ a) same are.unasked;
+}
 
 -- a line that is the same command does the same
 next_so : (event : Event) (line : List ℕ) (x : State) → command_of event.line ≡ command_of line → next_of x (with_line line event) ≡ next_of x event
 next_so event line x same = ap (λ command. next_for x command event.answers) (sym same)
 
-pub relabelled : (a b : ShelfSide) (events : List Event) (ys : List (List ℕ)) → Alike (lines_of events) ys → AllByRecursion (IsAnswered a b) events → Relabelled a b events ys
-relabelled a b [] [] p are = record { others = []; lines = refl; many = refl; texts = λ x. refl; states = λ x. refl; answered = tt }
+pub relabelled : (a b : ShelfSide) (events : List Event) (ys : List (List ℕ)) → Alike (lines_of events) ys → AreAnswered a b events → Relabelled a b events ys
+relabelled a b [] [] p are = record { others = []; lines = refl; many = refl; texts = λ x. refl; states = λ x. refl; answered = are }
 relabelled a b [] (y ∷ ys) p are = absurd p
 relabelled a b (event ∷ events) [] p are = absurd p
 relabelled a b (event ∷ events) (y ∷ ys) p are =
-    let rest = relabelled a b events ys p.1 are.1 in
+    let rest = relabelled are.between b events ys p.1 are.others in
     record {
       others = with_line y event ∷ rest.others;
       lines = ap (λ l. y ∷ l) rest.lines;
       many = ap suc rest.many;
       texts = λ x. ap (λ n. n.text ++ text_after n.state rest.others) (next_so event y x p.0) ∙ ap (λ l. (next_of x event).text ++ l) (rest.texts (next_of x event).state);
       states = λ x. ap (λ n. state_after n.state rest.others) (next_so event y x p.0) ∙ rest.states (next_of x event).state;
-      answered = (answered_so a b event y p.0 are.0, rest.answered);
+      answered = record { between = are.between; answered = answered_so a are.between event y p.0 are.answered; others = rest.answered };
     }
 
 pub did_alike : (xs ys : List (List ℕ)) (x y : State) (a b : ShelfSide) (s t : SinkSide) → Alike xs ys → Did xs x y a b s t → Did ys x y a b s t
@@ -180,15 +183,17 @@ named_alike TooMuchInput xs ys n alike p = tt
 pub broke_alike : (status : Status) (xs ys : List (List ℕ)) (x : State) (a b : ShelfSide) (s t : SinkSide) → Alike xs ys → Broke status xs x a b s t → Broke status ys x a b s t
 broke_alike status xs ys x a b s t alike p =
     let n = length p.events in
-    let found = relabelled a b p.events (take n ys) (subst (λ l. Alike l (take n ys)) (sym p.lines) (alike_take n xs ys alike)) p.answered in
+    let found = relabelled a p.at p.events (take n ys) (subst (λ l. Alike l (take n ys)) (sym p.lines) (alike_take n xs ys alike)) p.answered in
     record {
       events = found.others;
       part = p.part;
       lines = found.lines ∙ ap (λ m. take m ys) (sym found.many);
-      begun = λ h. subst (λ m. Begun (state_after x found.others) a b ys m p.part) (sym found.many)
-          (subst (λ y. Begun y a b ys n p.part) (sym (found.states x)) (begun_alike xs ys (state_after x p.events) a b n p.part alike (p.begun h)));
+      at = p.at;
+      begun = λ h. subst (λ m. Begun (state_after x found.others) p.at b ys m p.part) (sym found.many)
+          (subst (λ y. Begun y p.at b ys n p.part) (sym (found.states x)) (begun_alike xs ys (state_after x p.events) p.at b n p.part alike (p.begun h)));
       named = subst (IsNamedAt status ys) (sym found.many) (named_alike status xs ys n alike p.named);
       answered = found.answered;
+      rest = p.rest;
       wrote = subst (λ l. Appends s.taken t.taken (l ++ p.part)) (sym (found.texts x)) p.wrote;
       stops = p.stops;
       at_status = p.at_status;

@@ -15,7 +15,7 @@ use Rattle.ms_memoise.specs.declared.flow.Flow.TheVariants as flows
 use Rattle.ms_memoise.specs.declared.conversation.Turn.TheVariants as turns
 use Rattle.ms_memoise.specs.Lines.{whole_lines}
 use Rattle.ms_memoise.specs.Events.{has_quit, lines_of, text_after, up_to_quit}
-use Rattle.ms_memoise.specs.Conversations.{Conversation, Elapses, Exceeds, HasDone, HasCauseOf, IsNamedAt, IsReachedAt, Leads, Outside, SourceSide}
+use Rattle.ms_memoise.specs.Conversations.{Conversation, Elapses, Exceeds, HasDone, HasCauseOf, IsNamedAt, IsReachedAt, IsRest, Leads, Outside, SourceSide}
 use Rattle.ms_memoise.specs.Feeding.{Broke, Did, Fed, ended_lines, fed_kept}
 use Rattle.ms_memoise.specs.Turns.{AtLimit, Finishes, TurnBroke, Turned, last_lines}
 use Rattle.ms_memoise.proofs.Handling.{did_both, did_broke, get_before, length_lines, named_before, no_more}
@@ -98,19 +98,19 @@ elapses o q reads passes = record { reads = reads; writes = passes.writes; fetch
 -- all of these lines were done
 -- a run that ended so wrote all that it began, and no fetch failed
 abbrev IsThrough : Status → Type 0
-IsThrough status = (IsReachedAt status [] → ⊥) × ((all : List (List ℕ)) (n : ℕ) → IsNamedAt status all n)
+IsThrough status = (IsReachedAt status [] → ⊥) × ((all : List (List ℕ)) (n : ℕ) → IsNamedAt status all n) × ((at : ShelfSide) → IsRest status at at)
 
 through_done : IsThrough Done
-through_done = (λ h. omega (arith, h), λ all n. tt)
+through_done = (λ h. omega (arith, h), λ all n. tt, λ at. refl)
 
 through_read : IsThrough ReadFault
-through_read = (λ h. omega (arith, h), λ all n. tt)
+through_read = (λ h. omega (arith, h), λ all n. tt, λ at. refl)
 
 through_much : IsThrough TooMuchInput
-through_much = (λ h. omega (arith, h), λ all n. tt)
+through_much = (λ h. omega (arith, h), λ all n. tt, λ at. refl)
 
 did_leads : (input : Option (List ℕ)) (status : Status) (all : List (List ℕ)) (y : State) (a b : ShelfSide) (s t : SinkSide) → AreFirst input all → IsThrough status → (p : Did all new_state y a b s t)
-    → IfSome input (λ input. Leads status a b p.events [] (up_to_quit (lines input)))
+    → IfSome input (λ input. Leads status b b p.events [] (up_to_quit (lines input)))
 did_leads input status all y a b s t are_first through p =
     let many : length p.events ≡ length all = sym (length_lines p.events) ∙ ap length p.lines in
     if_some input _ _ are_first (λ input f. record {
@@ -125,10 +125,12 @@ conversation_did limit status bytes all y o q took are_first are_told through p 
     record {
       bytes = bytes;
       events = p.events;
+      at = q.shelf;
       part = [];
       took = took;
       wrote = subst (Appends o.sink.taken q.sink.taken) (sym (append-nil (text_after new_state p.events))) p.wrote;
       answered = p.answered;
+      rest = through.2 q.shelf;
       first = did_leads (Some bytes) status all y o.shelf q.shelf o.sink q.sink are_first through p;
       told = did_leads o.source.left status all y o.shelf q.shelf o.sink q.sink are_told through p;
       done = subst (λ l. HasDone limit status q.source.left bytes l []) (sym p.lines) done;
@@ -138,7 +140,7 @@ conversation_did limit status bytes all y o q took are_first are_told through p 
 
 -- some first ones of these lines were done, and then it broke off
 broke_leads : (input : Option (List ℕ)) (status : Status) (all : List (List ℕ)) (a b : ShelfSide) (s t : SinkSide) → AreFirst input all → (p : Broke status all new_state a b s t)
-    → IfSome input (λ input. Leads status a b p.events p.part (up_to_quit (lines input)))
+    → IfSome input (λ input. Leads status p.at b p.events p.part (up_to_quit (lines input)))
 broke_leads input status all a b s t are_first p =
     if_some input _ _ are_first (λ input f. record {
       first = p.lines ∙ sym (take-append-le (length p.events) all f.0 (no_more p.events all p.lines)) ∙ ap (take (length p.events)) (sym f.1);
@@ -149,16 +151,18 @@ broke_leads input status all a b s t are_first p =
     })
 
 conversation_broke : (limit : ℕ) (status : Status) (bytes : List ℕ) (all : List (List ℕ)) (o q : Outside) → Consumes o.source.left q.source.left bytes → AreFirst (Some bytes) all → AreFirst o.source.left all
-    → (p : Broke status all new_state o.shelf q.shelf o.sink q.sink) → HasDone limit status q.source.left bytes (lines_of p.events) p.part → HasCauseOf limit status o q → o.source.faults ≤ q.source.faults
+    → (p : Broke status all new_state o.shelf q.shelf o.sink q.sink) → IsRest status p.at q.shelf → HasDone limit status q.source.left bytes (lines_of p.events) p.part → HasCauseOf limit status o q → o.source.faults ≤ q.source.faults
     → Conversation limit o q status
-conversation_broke limit status bytes all o q took are_first are_told p done cause reads =
+conversation_broke limit status bytes all o q took are_first are_told p rest done cause reads =
     record {
       bytes = bytes;
       events = p.events;
+      at = p.at;
       part = p.part;
       took = took;
       wrote = p.wrote;
       answered = p.answered;
+      rest = rest;
       first = broke_leads (Some bytes) status all o.shelf q.shelf o.sink q.sink are_first p;
       told = broke_leads o.source.left status all o.shelf q.shelf o.sink q.sink are_told p;
       done = done;
@@ -172,11 +176,11 @@ conversation_stopped limit Done bytes all o q took are_first are_told short p re
 conversation_stopped limit Usage bytes all o q took are_first are_told short p reads = absurd p.stops
 conversation_stopped limit ReadFault bytes all o q took are_first are_told short p reads = absurd p.stops
 conversation_stopped limit WriteFault bytes all o q took are_first are_told short p reads =
-    conversation_broke limit WriteFault bytes all o q took are_first are_told p short (p.stops.0, reads, p.stops.1) (omega arith)
+    conversation_broke limit WriteFault bytes all o q took are_first are_told p p.rest short (p.stops.0, reads, p.stops.1) (omega arith)
 conversation_stopped limit NoMemory bytes all o q took are_first are_told short p reads =
-    conversation_broke limit NoMemory bytes all o q took are_first are_told p short (reads, p.stops.0, p.stops.1) (omega arith)
+    conversation_broke limit NoMemory bytes all o q took are_first are_told p p.rest short (reads, p.stops.0, p.stops.1) (omega arith)
 conversation_stopped limit ShelfFault bytes all o q took are_first are_told short p reads =
-    conversation_broke limit ShelfFault bytes all o q took are_first are_told p (short, p.at_status) (p.stops.0, reads, p.stops.1) (omega arith)
+    conversation_broke limit ShelfFault bytes all o q took are_first are_told p p.rest (short, p.at_status) (p.stops.0, reads, p.stops.1) (omega arith)
 conversation_stopped limit TooMuchInput bytes all o q took are_first are_told short p reads = absurd p.stops
 
 -- THE ENDS OF A CONVERSATION

@@ -1,6 +1,5 @@
 -- Lines that are done one after another.
 use Rattle.std.proofs.Common.{◌≡◌, ℕ, zero, suc, ◌+◌, ◌<◌, ◌≤◌, List, [], ◌∷◌, ◌++◌, length, take, refl, sym, ap, ◌∙◌, subst, arith, Some, slice_get, append_assoc, length-append, suc-add}
-use Rattle.std.specs.List.{AllByRecursion}
 use Rattle.std.specs.Io.KnownBytes.{Appends}
 use Rattle.std.proofs.lemmas.List.{take-append-le, length-take}
 use Rattle.std.proofs.Math.Seq.{take-append-add}
@@ -10,24 +9,24 @@ use Rattle.ms_memoise.specs.declared.status.Status.{Status}
 use Rattle.ms_memoise.specs.declared.status.Status.TheVariants.{Done, Usage, ReadFault, WriteFault, NoMemory, ShelfFault, TooMuchInput}
 use Rattle.ms_session.specs.Outside.{Calm, Passes, ShelfSide, SinkSide}
 use Rattle.ms_session.specs.States.{State}
-use Rattle.ms_memoise.specs.Events.{Event, IsAnswered, lines_of, next_of, state_after, text_after}
-use Rattle.ms_memoise.specs.Feeding.{Broke, Did, IsPartAt, Stops}
-use Rattle.ms_memoise.proofs.Spans.{answers_wider, events_wider, passes_later, rose_wider, shelf_same}
+use Rattle.ms_memoise.specs.Events.{AreAnswered, Event, lines_of, next_of, state_after, text_after}
+use Rattle.ms_memoise.specs.Feeding.{Broke, Did, Stops}
+use Rattle.ms_memoise.proofs.Spans.{passes_later, rose_wider, shelf_same}
 
 pub did_nothing : (x : State) (a : ShelfSide) (s : SinkSide) → Did [] x x a a s s
 did_nothing x a s = record {
   events = [];
   lines = refl;
-  answered = tt;
+  answered = refl;
   wrote = Appends-nil s.taken;
   state_is = refl;
   passes = record { on_shelf = shelf_same a; writes = omega arith };
   calm = (refl, refl);
 }
 
-all_append : (P : Event → Type 0) (xs ys : List Event) → AllByRecursion P xs → AllByRecursion P ys → AllByRecursion P (xs ++ ys)
-all_append P [] ys p q = q
-all_append P (x ∷ xs) ys p q = (p.0, all_append P xs ys p.1 q)
+answered_append : (a b c : ShelfSide) (xs ys : List Event) → AreAnswered a b xs → AreAnswered b c ys → AreAnswered a c (xs ++ ys)
+answered_append a b c [] ys p q = subst (λ z. AreAnswered z c ys) p q
+answered_append a b c (x ∷ xs) ys p q = record { between = p.between; answered = p.answered; others = answered_append p.between b c xs ys p.others q }
 
 lines_append : (xs ys : List Event) → lines_of (xs ++ ys) ≡ lines_of xs ++ lines_of ys
 lines_append [] ys = refl
@@ -54,9 +53,7 @@ pub did_both : (xs ys : List (List ℕ)) (x y z : State) (a b c : ShelfSide) (s 
 did_both xs ys x y z a b c s t u p q = record {
   events = p.events ++ q.events;
   lines = lines_append p.events q.events ∙ ap (λ l. l ++ lines_of q.events) p.lines ∙ ap (λ l. xs ++ l) q.lines;
-  answered = all_append (IsAnswered a c) p.events q.events
-      (events_wider a a b c p.events (shelf_same a) q.passes.on_shelf p.answered)
-      (events_wider a b c c q.events p.passes.on_shelf (shelf_same c) q.answered);
+  answered = answered_append a b c p.events q.events p.answered q.answered;
   wrote = subst (Appends s.taken u.taken) (text_from x y p.events q.events p.state_is) (Appends-trans _ _ _ _ _ p.wrote q.wrote);
   state_is = q.state_is ∙ state_from x y p.events q.events p.state_is;
   passes = passes_later a b c s t u p.passes q.passes;
@@ -68,9 +65,11 @@ broke_here all x a s = record {
   events = [];
   part = [];
   lines = refl;
+  at = a;
   begun = λ h. absurd (omega arith);
   named = tt;
-  answered = tt;
+  answered = refl;
+  rest = shelf_same a;
   wrote = Appends-nil s.taken;
   stops = (refl, refl);
   at_status = tt;
@@ -128,9 +127,11 @@ broke_before status xs ys x a b s t p = record {
   events = p.events;
   part = p.part;
   lines = p.lines ∙ sym (take-append-le (length p.events) xs ys (no_more p.events xs p.lines));
+  at = p.at;
   begun = λ h. let begun = p.begun h in record { event = begun.event; line = get_before xs ys _ _ begun.line; answered = begun.answered; some = begun.some; begins = begun.begins };
   named = named_before status xs ys _ p.named;
   answered = p.answered;
+  rest = p.rest;
   wrote = p.wrote;
   stops = p.stops;
   at_status = p.at_status;
@@ -146,17 +147,17 @@ did_broke status xs ys x y a b c s t u p q =
       part = q.part;
       lines = lines_append p.events q.events ∙ ap (λ l. l ++ lines_of q.events) p.lines ∙ ap (λ l. xs ++ l) q.lines
           ∙ sym (take-append-add xs ys (length q.events)) ∙ ap (λ n. take n (xs ++ ys)) (sym count);
+      at = q.at;
       begun = λ h. let begun = q.begun h in record {
         event = begun.event;
         line = ap (slice_get (xs ++ ys)) count ∙ get_behind xs ys _ ∙ begun.line;
-        answered = answers_wider a b c c _ _ p.passes.on_shelf (shelf_same c) begun.answered;
+        answered = begun.answered;
         some = subst (λ (z : State). 0 < length (next_of z begun.event).text) (state_from x y p.events q.events p.state_is) begun.some;
         begins = ap (λ z. take (length q.part) (next_of z begun.event).text) (sym (state_from x y p.events q.events p.state_is)) ∙ begun.begins;
       };
       named = named_behind status xs ys (length q.events) _ count q.named;
-      answered = all_append (IsAnswered a c) p.events q.events
-          (events_wider a a b c p.events (shelf_same a) q.passes.on_shelf p.answered)
-          (events_wider a b c c q.events p.passes.on_shelf (shelf_same c) q.answered);
+      answered = answered_append a b q.at p.events q.events p.answered q.answered;
+      rest = q.rest;
       wrote = subst (Appends s.taken u.taken) (sym (append_assoc (text_after x p.events) (text_after y q.events) q.part) ∙ ap (λ l. l ++ q.part) (text_from x y p.events q.events p.state_is))
           (Appends-trans _ _ _ _ _ p.wrote q.wrote);
       stops = stops_wider status a b c s t u p.passes p.calm q.stops;

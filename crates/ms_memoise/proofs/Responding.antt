@@ -1,7 +1,7 @@
 -- What a line does: a command is run, and a line that is none is refused.
 use Rattle.std.proofs.Common.{◌≡◌, ◌≢◌, ◌<◌, ℕ, zero, suc, List, [], ◌∷◌, ◌++◌, length, take, map, refl, sym, ap, ◌∙◌, subst, arith, append-nil, Option, Some, None, IfSome, Result, Ok, Err, MatchResult}
 use Rattle.std.specs.Io.KnownBytes.{Appends}
-use Rattle.ms_outside.specs.Shelves.{File, answer_of}
+use Rattle.ms_outside.specs.Shelves.{Answer, File, answer_of}
 use Rattle.ms_command.specs.declared.command.Command.{Command}
 use Rattle.ms_command.specs.declared.reply.Reply.{Reply}
 use Rattle.ms_command.specs.Commands.{command_of}
@@ -11,16 +11,25 @@ use Rattle.ms_session.specs.declared.stop.Stop.TheVariants as stops
 use Rattle.ms_session.specs.Commands.{AsksAt, IsPartFor, IsReached, StopsFor}
 use Rattle.ms_session.proofs.Writing.{reply_has_text}
 use Rattle.ms_memoise.specs.Conversations.{IsNamedAt, IsReachedAt}
-use Rattle.ms_session.specs.Outside.{AreAnswers, ShelfSide, SinkSide}
+use Rattle.ms_session.specs.Outside.{AreAnswers, ShelfPasses, ShelfSide, SinkSide}
+use Rattle.ms_session.specs.Steps.{names_in}
 use Rattle.ms_session.specs.States.{State}
 use Rattle.ms_memoise.specs.declared.status.Status.{Status}
 use Rattle.ms_memoise.specs.declared.status.Status.TheVariants.{Done, Usage, ReadFault, WriteFault, NoMemory, ShelfFault, TooMuchInput}
 use Rattle.ms_memoise.specs.declared.flow.Flow.{Flow}
-use Rattle.ms_memoise.specs.Events.{names_of, next_for, quits}
+use Rattle.ms_memoise.specs.Events.{IsAnswered, names_of, next_for, quits}
 use Rattle.ms_memoise.specs.Feeding.{Broke, Halted, Hushed, Hushes, IsFlow, IsPartAt, Ran, Responded, Said, Stops, status_of}
 use Rattle.ms_memoise.proofs.Spans.{shelf_same}
 
 -- A LINE THAT IS A COMMAND
+
+answered_by : (line : List ℕ) (command : Command) (a b : ShelfSide) (answers : List Answer) → command_of line ≡ Ok command → AreAnswers a b (names_in command) answers → ShelfPasses a b → (names_in command ≡ [] → b ≡ a)
+    → IsAnswered a b (record { line = line; answers = answers })
+answered_by line command a b answers is given passes unasked = record {
+  given = subst (λ c. AreAnswers a b (names_of c) answers) (sym is) given;
+  passes = passes;
+  unasked = subst (λ c. names_of c ≡ [] → b ≡ a) (sym is) unasked;
+}
 
 ran : (flow : Flow) (line : List ℕ) (command : Command) (x y : State) (a b : ShelfSide) (s t : SinkSide) → command_of line ≡ Ok command → Ran flow command x y a b s t → Responded flow line x y a b s t
 ran flow line command x y a b s t is r =
@@ -29,7 +38,7 @@ ran flow line command x y a b s t is r =
       did = record {
         events = record { line = line; answers = answers } ∷ [];
         lines = refl;
-        answered = (subst (λ c. AreAnswers a b (names_of c) answers) (sym is) r.done.given, tt);
+        answered = record { between = b; answered = answered_by line command a b answers is r.done.given r.done.passes.on_shelf r.done.unasked; others = refl };
         wrote = subst (λ c. Appends s.taken t.taken ((next_for x c answers).text ++ [])) (sym is) (subst (Appends s.taken t.taken) (sym (append-nil _)) r.done.wrote);
         state_is = r.done.state_is ∙ ap (λ c. (next_for x c answers).state) (sym is);
         passes = r.done.passes;
@@ -64,15 +73,17 @@ halted status line command x a b s t is h = record {
   events = [];
   part = h.stopped.part;
   lines = refl;
+  at = a;
   begun = λ some. let begins = h.stopped.begun (reached h.stop h.stopped.part (subst (λ status. IsReachedAt status h.stopped.part) h.is some)) in record {
     event = record { line = line; answers = begins.answers };
     line = refl;
-    answered = subst (λ c. AreAnswers a b (names_of c) begins.answers) (sym is) begins.given;
+    answered = answered_by line command a b begins.answers is begins.given h.stopped.passes.on_shelf h.stopped.unasked;
     some = subst (λ c. 0 < length (next_for x c begins.answers).text) (sym is) begins.some;
     begins = ap (λ c. take (length h.stopped.part) (next_for x c begins.answers).text) is ∙ begins.first;
   };
   named = subst (λ status. IsNamedAt status (line ∷ []) 0) (sym h.is) (names_at h.stop line command is h.stopped.asked);
-  answered = tt;
+  answered = refl;
+  rest = h.stopped.passes.on_shelf;
   wrote = h.stopped.wrote;
   stops = subst (λ status. Stops status a b s t) (sym h.is) (halts h.stop a b s t h.stopped.stops);
   at_status = subst (λ status. IsPartAt status h.stopped.part) (sym h.is) (part_at h.stop h.stopped.part h.stopped.at_stop);
@@ -95,12 +106,19 @@ told_none (Some files) = refl
 no_answers : (a : ShelfSide) → AreAnswers a a [] []
 no_answers a = record { each = refl; size = tt; causes = tt; told = told_none a.files }
 
+none_of : (line : List ℕ) (reply : Reply) (a : ShelfSide) → command_of line ≡ Err reply → IsAnswered a a (record { line = line; answers = [] })
+none_of line reply a is = record {
+  given = subst (λ c. AreAnswers a a (names_of c) []) (sym is) (no_answers a);
+  passes = shelf_same a;
+  unasked = λ none. refl;
+}
+
 said : (flow : Flow) (line : List ℕ) (reply : Reply) (x : State) (a : ShelfSide) (s t : SinkSide) → command_of line ≡ Err reply → Said flow reply s t → Responded flow line x x a a s t
 said flow line reply x a s t is r = record {
   did = record {
     events = record { line = line; answers = [] } ∷ [];
     lines = refl;
-    answered = (subst (λ c. AreAnswers a a (names_of c) []) (sym is) (no_answers a), tt);
+    answered = record { between = a; answered = none_of line reply a is; others = refl };
     wrote = subst (λ c. Appends s.taken t.taken ((next_for x c []).text ++ [])) (sym is) (subst (Appends s.taken t.taken) (sym (append-nil _)) r.wrote);
     state_is = ap (λ c. (next_for x c []).state) (sym is);
     passes = record { on_shelf = shelf_same a; writes = omega (arith, r.steady) };
@@ -130,15 +148,17 @@ hushed status line reply x a s t is h =
       events = [];
       part = part;
       lines = refl;
+      at = a;
       begun = λ some. record {
         event = record { line = line; answers = [] };
         line = refl;
-        answered = subst (λ c. AreAnswers a a (names_of c) []) (sym is) (no_answers a);
+        answered = none_of line reply a is;
         some = subst (λ c. 0 < length (next_for x c []).text) (sym is) (reply_has_text reply);
         begins = ap (λ c. take (length part) (next_for x c []).text) is ∙ take_of_take h.many (reply_text reply);
       };
       named = (hushes status a s t part h.why).2 (line ∷ []);
-      answered = tt;
+      answered = refl;
+      rest = shelf_same a;
       wrote = h.wrote;
       stops = (hushes status a s t part h.why).0;
       at_status = (hushes status a s t part h.why).1;

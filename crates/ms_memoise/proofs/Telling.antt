@@ -11,7 +11,7 @@ use Rattle.ms_session.specs.States.{new_state}
 use Rattle.ms_memoise.specs.declared.status.Status.{Status}
 use Rattle.ms_memoise.specs.declared.status.Status.TheVariants.{Done, Usage, ReadFault, WriteFault, NoMemory, ShelfFault, TooMuchInput}
 use Rattle.ms_memoise.specs.Lines.{whole_lines}
-use Rattle.ms_memoise.specs.Events.{Event, IsAnswered, asked, event_of, has_quit, lines_of, replies, text_after, up_to_quit}
+use Rattle.ms_memoise.specs.Events.{AreAnswered, Event, asked, event_of, has_quit, lines_of, replies, text_after, up_to_quit}
 use Rattle.ms_memoise.specs.Conversations.{Conversation, Exceeds, Fits, IsDoneUnlessRisen, IsOver, IsTooMuchUnlessRisen, Leads, Outside}
 use Rattle.ms_memoise.proofs.Spans.{counts_same}
 use Rattle.ms_memoise.proofs.UpTo.{has_first, up_first}
@@ -29,10 +29,12 @@ pub conversation_of_usage : (limit : ℕ) (o : Outside) → Conversation limit o
 conversation_of_usage limit o = record {
   bytes = [];
   events = [];
+  at = o.shelf;
   part = [];
   took = Consumes-nil o.source.left;
   wrote = Appends-nil o.sink.taken;
-  answered = tt;
+  answered = refl;
+  rest = refl;
   first = nothing_leads o [];
   told = if_some_each o.source.left _ (nothing_leads o);
   done = (refl, refl, refl);
@@ -50,10 +52,10 @@ events_told files (event ∷ events) told =
     let first : event ≡ event_of files event.line = ap (λ answers. record { line = event.line; answers = answers }) told.0 in
     ap (λ e. e ∷ events) first ∙ ap (λ es. event_of files event.line ∷ es) (events_told files events told.1)
 
-all_told : (files : Option (List File)) (before now : ShelfSide) (events : List Event) → before.files ≡ files → AllByRecursion (IsAnswered before now) events
+all_told : (files : Option (List File)) (before now : ShelfSide) (events : List Event) → before.files ≡ files → AreAnswered before now events
     → AllByRecursion (λ event. IfSome files (λ files. IsToldBy files event)) events
 all_told files before now [] is are = tt
-all_told files before now (event ∷ events) is are = (subst (λ files. IfSome files (λ files. IsToldBy files event)) is are.0.told, all_told files before now events is are.1)
+all_told files before now (event ∷ events) is are = (subst (λ files. IfSome files (λ files. IsToldBy files event)) is are.answered.given.told, all_told files are.between now events (are.answered.passes.files ∙ is) are.others)
 
 -- THE LINES DONE
 
@@ -80,7 +82,7 @@ replied_at (Some input) (Some rest) (Some files) bytes events taken taken_now to
 -- where the source and the shelf tell what they hold, the sink took the replies
 pub replied : (limit : ℕ) (o q : Outside) → Conversation limit o q Done → IfSome o.source.left (λ input. IfSome o.shelf.files (λ files. Appends o.sink.taken q.sink.taken (replies files input)))
 replied limit o q c =
-    replied_at o.source.left q.source.left o.shelf.files c.bytes c.events o.sink.taken q.sink.taken c.took c.done.3 c.done.1 (all_told _ o.shelf q.shelf c.events refl c.answered)
+    replied_at o.source.left q.source.left o.shelf.files c.bytes c.events o.sink.taken q.sink.taken c.took c.done.3 c.done.1 (all_told _ o.shelf c.at c.events refl c.answered)
     (subst (Appends o.sink.taken q.sink.taken) (ap (λ l. text_after new_state c.events ++ l) c.done.2 ∙ append-nil (text_after new_state c.events)) c.wrote)
 
 -- a quit among the lines that a line feed ends is one among the lines of the input

@@ -1,15 +1,14 @@
 -- Conversations: what the program has read, done and written when it ends.
 use Rattle.std.specs.Prelude.{◌≡◌, ◌≢◌, ℕ, ◌+◌, ◌<◌, ◌≤◌, ◌⊎◌, List, [], ◌++◌, length, take, Bool, IsFalse, IsTrue, Option, Some, IfSome, slice_get}
-use Rattle.std.specs.List.{AllByRecursion}
 use Rattle.std.specs.Str.Lines.{lines}
 use Rattle.std.specs.Io.KnownBytes.{Appends, Consumes, IsAtEnd}
 use Rattle.ms_outside.specs.Counts.{CountsGrow, Rose}
-use Rattle.ms_session.specs.Outside.{ShelfSide, SinkSide, sink_side}
+use Rattle.ms_session.specs.Outside.{ShelfPasses, ShelfSide, SinkSide, sink_side}
 use Rattle.ms_session.specs.States.{State, new_state}
 use Rattle.ms_memoise.specs.declared.status.Status.{Status}
 use Rattle.ms_memoise.specs.declared.status.Status.TheVariants.{Done, Usage, ReadFault, WriteFault, NoMemory, ShelfFault, TooMuchInput}
 use Rattle.ms_memoise.specs.Lines.{whole_lines}
-use Rattle.ms_memoise.specs.Events.{Event, IsAnswered, asked, has_quit, lines_of, next_of, state_after, text_after, up_to_quit}
+use Rattle.ms_memoise.specs.Events.{AreAnswered, Event, IsAnswered, asked, has_quit, lines_of, next_of, state_after, text_after, up_to_quit}
 
 -- a source at a moment: what it has left, where it tells that, and its count of faults
 pub record SourceSide : Type 0 where
@@ -134,21 +133,34 @@ HasDone limit NoMemory left bytes done part = length bytes ≤ limit
 HasDone limit ShelfFault left bytes done part = (length bytes ≤ limit) × (part ≡ [])
 HasDone limit TooMuchInput left bytes done part = (length bytes ≡ limit + 1) × AreWhole (take limit bytes) done × (part ≡ [])
 
+-- What became of the shelf after the lines that were done: nothing, unless the next one broke off.
+abbrev pub IsRest : Status → ShelfSide → ShelfSide → Type 0
+IsRest Done at now = now ≡ at
+IsRest Usage at now = now ≡ at
+IsRest ReadFault at now = now ≡ at
+IsRest WriteFault at now = ShelfPasses at now
+IsRest NoMemory at now = ShelfPasses at now
+IsRest ShelfFault at now = ShelfPasses at now
+IsRest TooMuchInput at now = now ≡ at
+
 -- A run that took at most `limit` bytes, or one more, and ended so. Its session was new at the start.
 pub record Conversation (limit : ℕ) (before now : Outside) (status : Status) : Type 0 where
   -- the bytes that it took
   pub bytes : List ℕ
   -- the lines that it did, with the shelf's answers
   pub events : List Event
+  -- the shelf after them
+  pub at : ShelfSide
   -- what it wrote of the next reply
   pub part : List ℕ
   pub took : Consumes before.source.left now.source.left bytes
   pub wrote : Appends before.sink.taken now.sink.taken (text_after new_state events ++ part)
-  pub answered : AllByRecursion (IsAnswered before.shelf now.shelf) events
+  pub answered : AreAnswered before.shelf at events
+  pub rest : IsRest status at now.shelf
   -- they are the first lines of those bytes, up to a quit
-  pub first : Leads status before.shelf now.shelf events part (up_to_quit (lines bytes))
+  pub first : Leads status at now.shelf events part (up_to_quit (lines bytes))
   -- and of what the source holds, where it tells that
-  pub told : IfSome before.source.left (λ input. Leads status before.shelf now.shelf events part (up_to_quit (lines input)))
+  pub told : IfSome before.source.left (λ input. Leads status at now.shelf events part (up_to_quit (lines input)))
   pub done : HasDone limit status now.source.left bytes (lines_of events) part
   pub cause : HasCauseOf limit status before now
   pub elapses : Elapses before now

@@ -1,5 +1,5 @@
 -- Events: lines with the shelf's answers to the file names in them, and what a session does for them.
-use Rattle.std.specs.Prelude.{ℕ, List, [], ◌∷◌, ◌++◌, map, Bool, true, false, if◌then◌else◌, Result, Ok, Err}
+use Rattle.std.specs.Prelude.{◌≡◌, ℕ, List, [], ◌∷◌, ◌++◌, map, Bool, true, false, if◌then◌else◌, Result, Ok, Err}
 use Rattle.std.specs.List.{list_any}
 use Rattle.std.specs.Str.Lines.{lines}
 use Rattle.ms_outside.specs.Shelves.{Answer, File, answer_of}
@@ -7,7 +7,7 @@ use Rattle.ms_command.specs.declared.command.Command.{Command}
 use Rattle.ms_command.specs.declared.command.Command.TheVariants as commands
 use Rattle.ms_command.specs.declared.reply.Reply.{Reply}
 use Rattle.ms_command.specs.Commands.{command_of}
-use Rattle.ms_session.specs.Outside.{AreAnswers, ShelfSide}
+use Rattle.ms_session.specs.Outside.{AreAnswers, ShelfPasses, ShelfSide}
 use Rattle.ms_session.specs.States.{State, new_state}
 use Rattle.ms_session.specs.Steps.{Next, names_in, next, reply_alone}
 
@@ -81,6 +81,21 @@ up_to_quit (line ∷ lines) = line ∷ (if is_quit line then [] else up_to_quit 
 abbrev pub replies : List File → List ℕ → List ℕ
 replies files input = text_after new_state (map (event_of files) (up_to_quit (lines input)))
 
--- the answers of an event came from the shelf between the two moments
-abbrev pub IsAnswered : ShelfSide → ShelfSide → Event → Type 0
-IsAnswered before now event = AreAnswers before now (asked event.line) event.answers
+-- The answers of an event came from the shelf between the two moments. Where its line names no file, the
+-- shelf was not asked.
+pub record IsAnswered (before now : ShelfSide) (event : Event) : Type 0 where
+  pub given : AreAnswers before now (asked event.line) event.answers
+  pub passes : ShelfPasses before now
+  pub unasked : asked event.line ≡ [] → now ≡ before
+
+-- an event has its answers from this moment on, and then the rest follows
+pub record Then (rest : ShelfSide → Type 0) (before : ShelfSide) (event : Event) : Type 0 where
+  pub between : ShelfSide
+  pub answered : IsAnswered before between event
+  pub others : rest between
+
+-- The events have their answers one after another, each between two moments of its own, from the first moment
+-- to the last.
+abbrev pub AreAnswered : ShelfSide → ShelfSide → List Event → Type 0
+AreAnswered before now [] = now ≡ before
+AreAnswered before now (event ∷ events) = Then (λ between. AreAnswered between now events) before event

@@ -1,8 +1,7 @@
 -- For private functions: how bytes are fed to the program, one after another. Of a line it keeps the
 -- first bytes alone: as many as a command may have, a carriage return, and one more, which tells that
 -- the line is longer.
-use Rattle.std.specs.Prelude.{◌≡◌, ℕ, ◌<◌, ◌≤◌, List, [], ◌∷◌, ◌++◌, length, take, map, nat_lt, ◌==◌, if◌then◌else◌, Bool, IsFalse, IsTrue, Ok}
-use Rattle.std.specs.List.{AllByRecursion}
+use Rattle.std.specs.Prelude.{◌≡◌, ℕ, ◌≤◌, List, [], ◌∷◌, ◌++◌, length, take, map, nat_lt, ◌==◌, if◌then◌else◌, Bool, IsFalse, IsTrue, Ok}
 use Rattle.std.specs.Str.Lines.{strip_carriage_return}
 use Rattle.std.specs.Io.KnownBytes.{Appends}
 use Rattle.ms_outside.specs.Counts.{Rose}
@@ -12,13 +11,13 @@ use Rattle.ms_command.specs.Texts.{reply_text}
 use Rattle.ms_session.specs.declared.stop.Stop.{Stop}
 use Rattle.ms_session.specs.declared.stop.Stop.TheVariants as stops
 use Rattle.ms_session.specs.Commands as commands
-use Rattle.ms_session.specs.Outside.{Calm, Passes, ShelfSide, SinkSide}
+use Rattle.ms_session.specs.Outside.{Calm, Passes, ShelfPasses, ShelfSide, SinkSide}
 use Rattle.ms_session.specs.States.{State}
 use Rattle.ms_memoise.specs.declared.status.Status.{Status}
 use Rattle.ms_memoise.specs.declared.status.Status.TheVariants.{Done, Usage, ReadFault, WriteFault, NoMemory, ShelfFault, TooMuchInput}
 use Rattle.ms_memoise.specs.declared.flow.Flow.{Flow}
 use Rattle.ms_memoise.specs.declared.flow.Flow.TheVariants.{GoesOn, Quits}
-use Rattle.ms_memoise.specs.Events.{Event, IsAnswered, has_quit, is_quit, lines_of, quits, state_after, text_after, up_to_quit}
+use Rattle.ms_memoise.specs.Events.{AreAnswered, Event, has_quit, is_quit, lines_of, quits, state_after, text_after, up_to_quit}
 use Rattle.ms_memoise.specs.Conversations.{Begun, IsNamedAt, IsReachedAt}
 
 -- the most bytes that are kept of a line
@@ -116,7 +115,7 @@ IsPartAt TooMuchInput part = Unit {0}
 pub record Did (all : List (List ℕ)) (state state_now : State) (shelf shelf_now : ShelfSide) (sink sink_now : SinkSide) : Type 0 where
   pub events : List Event
   pub lines : lines_of events ≡ all
-  pub answered : AllByRecursion (IsAnswered shelf shelf_now) events
+  pub answered : AreAnswered shelf shelf_now events
   pub wrote : Appends sink.taken sink_now.taken (text_after state events)
   pub state_is : state_now ≡ state_after state events
   pub passes : Passes shelf shelf_now sink sink_now
@@ -127,9 +126,12 @@ pub record Broke (status : Status) (all : List (List ℕ)) (state : State) (shel
   pub events : List Event
   pub part : List ℕ
   pub lines : lines_of events ≡ take (length events) all
-  pub begun : IsReachedAt status part → Begun (state_after state events) shelf shelf_now all (length events) part
+  -- the shelf when the next line began
+  pub at : ShelfSide
+  pub begun : IsReachedAt status part → Begun (state_after state events) at shelf_now all (length events) part
   pub named : IsNamedAt status all (length events)
-  pub answered : AllByRecursion (IsAnswered shelf shelf_now) events
+  pub answered : AreAnswered shelf at events
+  pub rest : ShelfPasses at shelf_now
   pub wrote : Appends sink.taken sink_now.taken (text_after state events ++ part)
   pub stops : Stops status shelf shelf_now sink sink_now
   pub at_status : IsPartAt status part

@@ -11,7 +11,7 @@ use Rattle.ms_outside.specs.Shelves.{Answer, File}
 use Rattle.ms_command.specs.declared.reply.Reply as reply
 use Rattle.ms_command.specs.declared.command.Command.TheVariants as commands
 use Rattle.ms_session.specs.Outside.{AreAnswers, ShelfPasses, ShelfSide, SinkSide}
-use Rattle.ms_session.specs.Commands.{AsksAt, Begins, Done, IsPartFor, IsReached, Stopped, StopsFor}
+use Rattle.ms_session.specs.Commands.{AsksAt, Done, IsPartFor, IsReached, Stopped, StopsFor}
 use Rattle.ms_session.specs.Writing.{HasText, WriteCause, WriteStops}
 use Rattle.ms_session.proofs.Writing.{short_take, take_of_take}
 use Rattle.std.specs.Prelude.{ℤ, cond, codes, not, Result, Ok, Err, IfOk, IsOk, IsErr, IfSome, MatchResult}
@@ -29,7 +29,7 @@ use Rattle.ms_trie.specs.declared.row.PathRow.{PathRow}
 use Rattle.ms_session.specs.Paths.{report}
 use Rattle.ms_session.specs.States.{State, class_named, is_boolean}
 use Rattle.ms_session.specs.Steps.{entry_next, explore_next, how_far, is_entry, is_unfinished, names_in, next, once_reply, report_next, reported}
-use Rattle.ms_session.specs.Sessions.{FetchCause, FetchStops, IsShort, Leads, Prepared, PrepareStops, Says, classes_in, entry_in, listed, output_text}
+use Rattle.ms_session.specs.Sessions.{FetchCause, IsShort, Leads, Prepared, PrepareStops, Says, classes_in, entry_in, listed, output_text}
 
 -- the entry is the method of the file
 pub entry_is : (has_entry : Bool) (file : Option (Vec ℕ)) (bytes : Vec ℕ) (method : Method) → has_entry ≡ true → file ≡ Some bytes → thin_method bytes.items ≡ Some method → entry_in has_entry file ≡ Some method

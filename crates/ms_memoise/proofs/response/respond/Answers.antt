@@ -1,7 +1,5 @@
-use Rattle.std.proofs.Common.{refl}
 use Rattle.ms_command.specs.declared.reply.Reply.TheVariants.{NoLine, NoCommand, Range}
 use Rattle.ms_session.specs.Outside.{shelf_side, sink_side}
-use Rattle.ms_memoise.specs.declared.status.Status.TheVariants.{NoMemory}
 use Rattle.ms_memoise.proofs.Handling.{broke_here}
 use Rattle.ms_memoise.proofs.Responding.{ran_or_halted, said_or_hushed}
 use Rattle.ms_memoise.proofs.response.respond.Goals as goal
