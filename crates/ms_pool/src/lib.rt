@@ -3,5 +3,7 @@
 #![tactic(auto)]
 
 mod cursor;
+mod pool;
 
 pub use cursor::{Cursor, Short};
+pub use pool::{PoolFault, pools_are_whole_or_have_a_fault};

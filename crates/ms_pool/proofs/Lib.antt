@@ -1,0 +1,6 @@
+pub mod Example
+pub mod Faults
+pub mod Entries
+pub mod Again
+pub mod Lists
+pub mod Pools
