@@ -24,11 +24,11 @@ run_reaches text place rest spelled =
     let again = run_again text place rest spelled in
     record { after = behind place (length text); found = ap of_short again.0; left = again.1 }
 
-or_cases : (b c : Bool) → (b || c) ≡ true → (b ≡ true) ⊎ (c ≡ true)
+pub or_cases : (b c : Bool) → (b || c) ≡ true → (b ≡ true) ⊎ (c ≡ true)
 or_cases true c is = inl refl
 or_cases false c is = inr is
 
-at_tag : (P : ℕ → Type 0) (tag k : ℕ) → (tag == k) ≡ true → P k → P tag
+pub at_tag : (P : ℕ → Type 0) (tag k : ℕ) → (tag == k) ≡ true → P k → P tag
 at_tag P tag k is p = subst P (sym (eqb-true tag k is)) p
 
 -- a tag fits in a byte, and these tests of the chain fail before the one of its form

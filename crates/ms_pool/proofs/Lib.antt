@@ -4,3 +4,7 @@ pub mod Entries
 pub mod Again
 pub mod Lists
 pub mod Pools
+mod Slots
+mod Placing
+mod Whole
+mod Linked

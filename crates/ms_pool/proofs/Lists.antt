@@ -18,11 +18,11 @@ pub record AreFound (left : ℕ) (place : Place) (x : List Entry × Place) : Typ
   pub sound : AllByRecursion IsEntry x.0
   pub many : width x.0 ≡ left
 
-narrow : (wide : Bool) → wide ≡ false → ◌≡◌ {A = ℕ} (cond wide 2 1) 1
+pub narrow : (wide : Bool) → wide ≡ false → ◌≡◌ {A = ℕ} (cond wide 2 1) 1
 narrow true is = absurd cc
 narrow false is = refl
 
-broad : (wide : Bool) → wide ≡ true → ◌≡◌ {A = ℕ} (cond wide 2 1) 2
+pub broad : (wide : Bool) → wide ≡ true → ◌≡◌ {A = ℕ} (cond wide 2 1) 2
 broad true is = refl
 broad false is = absurd cc
 
@@ -94,11 +94,11 @@ not_last left more = elim (which (left == 1)) [
   | inr other ↦ other
 ]
 
-pick_true : {X : Type 0} (b : Bool) (x y z : X) → b ≡ true → x ≡ z → cond b x y ≡ z
+pub pick_true : {X : Type 0} (b : Bool) (x y z : X) → b ≡ true → x ≡ z → cond b x y ≡ z
 pick_true true x y z is same = same
 pick_true false x y z is same = absurd cc
 
-pick_false : {X : Type 0} (b : Bool) (x y z : X) → b ≡ false → y ≡ z → cond b x y ≡ z
+pub pick_false : {X : Type 0} (b : Bool) (x y z : X) → b ≡ false → y ≡ z → cond b x y ≡ z
 pick_false true x y z is same = absurd cc
 pick_false false x y z is same = same
 
@@ -197,7 +197,7 @@ entries_break (suc (suc left)) place fault fits found =
 pub place_is : (p q : Place) → p.at ≡ q.at → p.left ≡ q.left → p ≡ q
 place_is p q at left = ap (λ (a : ℕ). record { at = a; left = p.left }) at ∙ ap (λ (l : List ℕ). record { at = q.at; left = l }) left
 
-fails_first : (left : ℕ) (place : Place) (fault : PoolFault) → 0 < left → entry_at left place ≡ Err fault → entries_at left place ≡ Err fault
+pub fails_first : (left : ℕ) (place : Place) (fault : PoolFault) → 0 < left → entry_at left place ≡ Err fault → entries_at left place ≡ Err fault
 unfolding entries_at
 fails_first zero place fault some is = absurd (omega (arith, some))
 fails_first (suc zero) place fault some is = rw is refl

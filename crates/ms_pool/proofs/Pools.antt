@@ -29,7 +29,7 @@ above_zero : (n : ℕ) → (n == 0) ≡ false → 0 < n
 above_zero zero is = absurd cc
 above_zero (suc n) is = omega arith
 
-not_zero : (n : ℕ) → 0 < n → (n == 0) ≡ false
+pub not_zero : (n : ℕ) → 0 < n → (n == 0) ≡ false
 not_zero n some = elim (which (n == 0)) [
   | inl none ↦ absurd (omega (arith, some, eqb-true n 0 none))
   | inr other ↦ other

@@ -2,3 +2,5 @@ pub mod Places
 pub mod Numbers
 pub mod Pools
 pub mod PoolReading
+pub mod ByNumber
+pub mod Found

@@ -1,6 +1,6 @@
 -- The constant pool of a class file (JVMS SE 8, section 4.4): its entries, how they are spelled, and what
 -- their numbers name. The bytes of texts are not checked.
-use Rattle.std.specs.Prelude.{◌≡◌, ◌⊎◌, ℕ, zero, suc, ◌+◌, ◌-◌, ◌^◌, ◌<◌, ◌≤◌, List, [], ◌∷◌, ◌++◌, length, Bool, false, IsTrue, ◌||◌, ◌==◌, nat_lt, if◌then◌else◌, Option, Some, None}
+use Rattle.std.specs.Prelude.{◌≡◌, ◌⊎◌, ℕ, ◌+◌, ◌-◌, ◌^◌, ◌<◌, ◌≤◌, List, [], ◌∷◌, ◌++◌, length, Bool, false, not, IsTrue, ◌||◌, ◌==◌, nat_lt, if◌then◌else◌, Option, Some, None, option_and_then, slice_get}
 use Rattle.std.specs.List.{AllByRecursion, flat_map, list_all}
 use Rattle.byteorder.specs.Endian.{big_number}
 use Rattle.ms_pool.specs.declared.pool.PoolFault.{PoolFault}
@@ -94,24 +94,25 @@ pub record Placed : Type 0 where
   pub at : ℕ
   pub entry : Entry
 
--- The entries by their numbers, which begin at 1: None stands for the number 0 and for the second number
--- of a Long or Double. The first entry's tag has this place.
+-- what an entry, its tag at this place, has under its numbers: None under the second number of a Long or Double
+abbrev pub slots_of : ℕ → Entry → List (Option Placed)
+slots_of at entry =
+    if is_wide_tag (tag_of entry) then Some (record { at = at; entry = entry }) ∷ None ∷ []
+    else Some (record { at = at; entry = entry }) ∷ []
+
+-- the entries by their numbers, from some number on, the first of them with its tag at this place
 abbrev pub placed : ℕ → List Entry → List (Option Placed)
 placed at [] = []
-placed at (entry ∷ entries) =
-    if is_wide_tag (tag_of entry)
-    then Some (record { at = at; entry = entry }) ∷ None ∷ placed (at + length (spelled_entry entry)) entries
-    else Some (record { at = at; entry = entry }) ∷ placed (at + length (spelled_entry entry)) entries
+placed at (entry ∷ entries) = slots_of at entry ++ placed (at + length (spelled_entry entry)) entries
 
--- the entries by their numbers, of a pool whose count has this place
+-- The entries by their numbers, which begin at 1, of a pool whose count has this place: None stands for the
+-- number 0 too. So there are as many as the count says.
 abbrev pub numbered : ℕ → List Entry → List (Option Placed)
 numbered at entries = None ∷ placed (at + 2) entries
 
 -- the entry of this number
 abbrev pub placed_at : List (Option Placed) → ℕ → Option Placed
-placed_at [] i = None
-placed_at (slot ∷ slots) zero = slot
-placed_at (slot ∷ slots) (suc i) = placed_at slots i
+placed_at slots i = option_and_then (λ slot. slot) (slice_get slots i)
 
 abbrev pub has_tag_of : ℕ → Option Placed → Bool
 has_tag_of tag None = false
@@ -137,21 +138,24 @@ wanted (Handle kind index) = []
 abbrev pub is_linked : List (Option Placed) → Entry → Bool
 is_linked slots entry = list_all (λ reference. has_tag slots reference.0 reference.1) (wanted entry)
 
+abbrev pub is_unlinked : List (Option Placed) → Option Placed → Bool
+is_unlinked slots None = false
+is_unlinked slots (Some placed) = not (is_linked slots placed.entry)
+
 -- the first entry, in order of number, that names a number without the wanted tag
 abbrev pub first_unlinked : List (Option Placed) → List (Option Placed) → Option Placed
 first_unlinked all [] = None
-first_unlinked all (None ∷ slots) = first_unlinked all slots
-first_unlinked all (Some placed ∷ slots) = if is_linked all placed.entry then first_unlinked all slots else Some placed
+first_unlinked all (slot ∷ slots) = if is_unlinked all slot then slot else first_unlinked all slots
 
 abbrev pub unlinked : List (Option Placed) → Option Placed
 unlinked slots = first_unlinked slots slots
 
 -- THE POOL THAT BYTES ARE
 
--- the entries, one after another, from a place on, and what stands behind them
-pub record AreSpelled (place : Place) (count : ℕ) (entries : List Entry) (behind : List ℕ) : Type 0 where
+-- from a place on stand this count, the entries, one after another, and these bytes
+pub record AreSpelled (place : Place) (count : ℕ) (entries : List Entry) (rest : List ℕ) : Type 0 where
   pub fit : AllByRecursion IsEntry entries
-  pub bytes : place.left ≡ u2 count ++ flat_map spelled_entry entries ++ behind
+  pub bytes : place.left ≡ u2 count ++ flat_map spelled_entry entries ++ rest
 
 -- the bytes from a place on begin with the pool of these entries, and the other place is the one behind it
 pub record IsPool (place : Place) (entries : List Entry) (after : Place) : Type 0 where
@@ -159,6 +163,12 @@ pub record IsPool (place : Place) (entries : List Entry) (after : Place) : Type 
   pub spelled : AreSpelled place (width entries + 1) entries after.left
   pub moved : after.at ≡ place.at + length (spelled_pool entries)
   pub linked : unlinked (numbered place.at entries) ≡ None
+
+-- the bytes from a place on begin with a pool that has these entries by their numbers
+pub record IsPoolOf (place : Place) (slots : List (Option Placed)) (after : Place) : Type 0 where
+  pub entries : List Entry
+  pub is : IsPool place entries after
+  pub slots_are : slots ≡ numbered place.at entries
 
 -- THE FIRST FAULT
 
@@ -171,12 +181,12 @@ short_in (n ∷ parts) place = if nat_lt (length place.left) n then Some (Short 
 abbrev pub fault_of_text : Place → Option PoolFault
 fault_of_text place = short_in (2 ∷ big_number 2 place.left ∷ []) place
 
--- The fault of what stands behind a tag at a place, where the pool has so many numbers left.
-abbrev pub fault_behind : (tag at left : ℕ) → Place → Option PoolFault
-fault_behind tag at left place =
+-- The fault of what stands behind a tag that has the place `at`, where the pool has so many numbers left.
+abbrev pub fault_behind : (tag at numbers_left : ℕ) → Place → Option PoolFault
+fault_behind tag at numbers_left place =
     if tag == 1 then fault_of_text place
     else (if is_word_tag tag then short_in (4 ∷ []) place
-    else (if is_wide_tag tag then (if left == 1 then Some (Pool at) else short_in (8 ∷ []) place)
+    else (if is_wide_tag tag then (if numbers_left == 1 then Some (Pool at) else short_in (8 ∷ []) place)
     else (if is_one_tag tag then short_in (2 ∷ []) place
     else (if is_two_tag tag then short_in (2 ∷ 2 ∷ []) place
     else (if tag == 15 then short_in (1 ∷ 2 ∷ []) place
@@ -184,9 +194,9 @@ fault_behind tag at left place =
 
 -- the fault of the entry at a place, where the pool has so many numbers left
 abbrev pub fault_of_entry : ℕ → Place → Option PoolFault
-fault_of_entry left place =
+fault_of_entry numbers_left place =
     if nat_lt (length place.left) 1 then Some (Short place.at)
-    else fault_behind (big_number 1 place.left) place.at left (behind place 1)
+    else fault_behind (big_number 1 place.left) place.at numbers_left (behind place 1)
 
 -- an entry has a fault behind whole ones that don't take all numbers
 pub record EntryHasFault (place : Place) (fault : PoolFault) : Type 0 where

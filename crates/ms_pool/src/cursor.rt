@@ -1,4 +1,4 @@
-ghost use Rattle.std.specs.Prelude.{◌≡◌, ◌↔◌, [], IsTrue};
+ghost use Rattle.std.specs.Prelude.{◌≡◌, ◌<◌, ◌↔◌, [], length, IfNone, IfSome, IsTrue};
 
 use byteorder::{BigEndian, ByteOrder};
 use std::marker::Model;
@@ -32,7 +32,7 @@ impl<'a> Model for Cursor<'a> {
 }
 
 impl<'a> Cursor<'a> {
-    ghost use Rattle.ms_pool.specs.Places.{Reads, beginning, number_at, run_at};
+    ghost use Rattle.ms_pool.specs.Places.{Reads, beginning, number_at, place_in, run_at};
 
     /// The cursor at the beginning of the bytes.
     pub fn new(bytes: &'a [u8]) -> Cursor<'a>
@@ -46,6 +46,31 @@ impl<'a> Cursor<'a> {
         ensures { result ≡ self.now.at }
     {
         self.at as u64
+    }
+
+    /// The cursor at this place of the bytes, where they have it.
+    pub(crate) fn from_place(bytes: &'a [u8], at: usize) -> Option<Cursor<'a>>
+        ensures found { IfSome result (λ cursor. cursor ≡ place_in bytes.now at) }
+        ensures none { IfNone result (length bytes.now < at) }
+    {
+        if bytes.len() < at {
+            return None;
+        }
+        Some(Cursor { bytes, at })
+    }
+
+    /// All the bytes, those before the place too.
+    pub(crate) fn bytes(&self) -> &'a [u8]
+        ensures { self.now ≡ place_in result.now self.now.at }
+    {
+        self.bytes
+    }
+
+    /// The place, as an index of the bytes.
+    pub(crate) fn index(&self) -> usize
+        ensures { result ≡ self.now.at }
+    {
+        self.at
     }
 
     /// Whether no byte is left.

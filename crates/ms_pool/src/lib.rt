@@ -2,8 +2,17 @@
 //! spell them: each number with its highest byte first.
 #![tactic(auto)]
 
+mod code;
 mod cursor;
+mod entry;
+mod index;
+mod out;
 mod pool;
+mod reading;
 
+pub use code::{ClassKind, CodeRow, Handlers, RawHandler};
 pub use cursor::{Cursor, Short};
-pub use pool::{PoolFault, pools_are_whole_or_have_a_fault};
+pub use index::{Member, PoolIndex};
+pub use out::Out;
+pub use pool::{PoolFault, pools_are_whole_or_have_a_fault, pools_hold_what_they_name};
+pub use reading::{Pool, read_pool};

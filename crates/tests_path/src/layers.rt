@@ -9,7 +9,7 @@ use ms_memoise::{MOST_INPUT, Status, memoise};
 use ms_outside::{
     Fetch, FolderShelf, Shelf, Shelved, StdSink, StdSource, SureShelf, SureSink, SureSource,
 };
-use ms_pool::{Cursor, PoolFault, Short, pools_are_whole_or_have_a_fault};
+use ms_pool::Short;
 use ms_words::{Name, thrown_named};
 use std::alloc::{AllocError, Global};
 use std::test::Fail;
@@ -71,14 +71,9 @@ fn throwables_have_their_parents(rt: HostRuntime) {
 }
 
 #[test]
-fn a_cursor_tells_its_place(rt: HostRuntime) {
+fn laws_do_nothing(_rt: HostRuntime) {
     thin_files_are_read();
     thin_methods_end();
-    pools_are_whole_or_have_a_fault();
-    let mut cursor = Cursor::new(&[1, 2, 3, 4]);
-    assert_eq!(rt; cursor.u2(), Ok(0x0102));
-    assert_eq!(rt; cursor.u4(), Err(Short { at: 2 }));
-    assert_eq!(rt; cursor.at(), 2);
 }
 
 #[test]
@@ -98,32 +93,6 @@ fn faults_are_printed(rt: HostRuntime) -> Result<(), Fail> {
         text.as_str(),
         "the line has more than 4,096 bytes or one outside 0x20 to 0x7E; a number is outside its range"
     );
-    Ok(())
-}
-
-/// The faults of a constant pool, and what is said of each.
-static POOL_FAULTS: [(PoolFault, &str); 4] = [
-    (
-        PoolFault::Short { at: 7 },
-        "the bytes end within what begins at 7",
-    ),
-    (
-        PoolFault::Pool { at: 8 },
-        "the pool can't be as the number at 8 says",
-    ),
-    (
-        PoolFault::Index { at: 9 },
-        "the pool's entry at 9 names one of another tag",
-    ),
-    (PoolFault::NoMemory, "memory ran out"),
-];
-
-#[test]
-fn faults_of_pools_are_printed(rt: HostRuntime) -> Result<(), Fail> {
-    for (fault, want) in &POOL_FAULTS {
-        let text = format!(in rt.alloc(); "{fault}")?;
-        assert_eq!(rt; text.as_str(), *want);
-    }
     Ok(())
 }
 
