@@ -8,7 +8,7 @@ use Rattle.ms_pool.specs.Numbers.{IsBytes, width2, width4}
 use Rattle.ms_classfile.specs.ThinFile.{Entry, Attribute, u2, u4, utf8, has_name, spelled_attribute, spelled_attributes, AttributeFits, AttributesFit}
 use Rattle.ms_classfile.specs.Reading.{u2_at, u4_at, bytes_at, attribute_at, attributes_at}
 use Rattle.ms_classfile.proofs.Steps.{then_some, provided_some, some_is}
-use Rattle.ms_classfile.proofs.Fields.{Takes, Takes-is, Reaches, number_takes, number_reaches, run_takes, run_reaches, repeated_takes, repeated_reaches}
+use Rattle.ms_classfile.proofs.Spelling.{Takes, Takes-is, Reaches, number_takes, number_reaches, run_takes, run_reaches, repeated_takes, repeated_reaches}
 
 -- an attribute that has a spelling, and a text for its name
 pub record IsHeld (pool : List Entry) (attribute : Attribute) : Type 0 where

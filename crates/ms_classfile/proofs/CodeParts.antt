@@ -11,7 +11,7 @@ use Rattle.ms_classfile.specs.Instructions.{ends_with_return, is_walked}
 use Rattle.ms_classfile.specs.ThinFile.{Entry, Attribute, Code, u2, u4, code_bytes, spelled_attributes, spelled_code, IsThinCode}
 use Rattle.ms_classfile.specs.Reading.{provided, u2_at, u4_at, bytes_at, limits_at, attributes_at, rest_is_plain, instructions_of, code_of}
 use Rattle.ms_classfile.proofs.Steps.{then_some, provided_some, some_is}
-use Rattle.ms_classfile.proofs.Fields.{Takes, Takes-is, at_end, ends_there, number_takes, number_reaches, run_takes, run_reaches}
+use Rattle.ms_classfile.proofs.Spelling.{Takes, Takes-is, at_end, ends_there, number_takes, number_reaches, run_takes, run_reaches}
 use Rattle.ms_classfile.proofs.Attributes.{AreHeld, attributes_takes, attributes_reaches}
 use Rattle.ms_classfile.proofs.Instructions.{instructions_take, instructions_reach}
 

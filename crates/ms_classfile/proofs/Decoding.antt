@@ -13,7 +13,7 @@ use Rattle.ms_classfile.specs.declared.instruction.Instruction.{Instruction}
 use Rattle.ms_classfile.specs.declared.instruction.Instruction.TheVariants.{Iload, Bipush, If, IfIcmp}
 use Rattle.ms_classfile.specs.Reading.{u1_at, u2_at, short_instruction, condition_of, load_at, push_at, offset_at, branch_at, operand_at, instruction_at, instructions_at, instructions_of}
 use Rattle.ms_classfile.proofs.Steps.{then_some, provided_some, some_is, either, mapped_some}
-use Rattle.ms_classfile.proofs.Fields.{at_end}
+use Rattle.ms_classfile.proofs.Spelling.{at_end}
 
 -- ---- each instruction that is read has a byte at least
 

@@ -11,7 +11,7 @@ use Rattle.ms_pool.specs.Numbers.{IsBytes, width2, width4}
 use Rattle.ms_classfile.specs.ThinFile.{Entry, ThinFile, Method, IsThinClass, HasThinMethod, IsThinFile, IsThinMethod, u2, u4, magic, class_name, spelled_pool, spelled_attributes, spelled_file}
 use Rattle.ms_classfile.specs.Reading.{provided, u2_at, u4_at, is_ordinary, header_at, pool_at, class_part_at, counts_at, method_at, attributes_at, thin_method}
 use Rattle.ms_classfile.proofs.Steps.{then_some, provided_some, some_is}
-use Rattle.ms_classfile.proofs.Fields.{Takes, Takes-is, at_end, ends_there, number_takes, number_reaches}
+use Rattle.ms_classfile.proofs.Spelling.{Takes, Takes-is, at_end, ends_there, number_takes, number_reaches}
 use Rattle.ms_classfile.proofs.Pool.{pool_takes, pool_reaches}
 use Rattle.ms_classfile.proofs.Attributes.{attributes_takes, attributes_reaches}
 use Rattle.ms_classfile.proofs.Instructions.{length_spelled}

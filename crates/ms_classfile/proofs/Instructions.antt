@@ -18,7 +18,7 @@ use Rattle.ms_classfile.specs.Instructions.{condition_number, spelled_instructio
 use Rattle.ms_classfile.specs.ThinFile.{u1, u2}
 use Rattle.ms_classfile.specs.Reading.{u1_at, u2_at, short_instruction, condition_of, load_at, push_at, offset_at, branch_at, operand_at, instruction_at, instructions_at, instructions_of}
 use Rattle.ms_classfile.proofs.Steps.{then_some, provided_some, some, some_is, either, mapped_some}
-use Rattle.ms_classfile.proofs.Fields.{Takes, Takes-is, Reaches, at_end, number_takes, number_reaches}
+use Rattle.ms_classfile.proofs.Spelling.{Takes, Takes-is, Reaches, at_end, number_takes, number_reaches}
 
 -- an instruction that has this spelling
 record Spells (instruction : Instruction) (bytes : List ℕ) : Type 0 where

@@ -2,7 +2,7 @@ mod Example
 pub mod Repeated
 pub mod Steps
 pub mod Only
-pub mod Fields
+pub mod Spelling
 pub mod Pool
 pub mod Attributes
 pub mod Instructions
@@ -12,3 +12,9 @@ pub mod Signatures
 pub mod CodeParts
 pub mod MethodParts
 pub mod Files
+mod Exact
+pub mod ClassExample
+mod Loops
+mod Numbering
+mod Keys
+mod Members

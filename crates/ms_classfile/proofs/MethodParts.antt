@@ -9,7 +9,7 @@ use Rattle.ms_classfile.specs.Reading.{provided, only, signature_of, u2_at, attr
 use Rattle.ms_classfile.proofs.Steps.{then_some, provided_some, some_is}
 use Rattle.ms_classfile.proofs.Only.{only_is}
 use Rattle.ms_classfile.proofs.Signatures.{signature_is, signature_reaches}
-use Rattle.ms_classfile.proofs.Fields.{Takes, Reaches, number_takes, number_reaches}
+use Rattle.ms_classfile.proofs.Spelling.{Takes, Reaches, number_takes, number_reaches}
 use Rattle.ms_classfile.proofs.Attributes.{IsFound, attributes_takes, attributes_reaches}
 use Rattle.ms_classfile.proofs.CodeParts.{code_takes, code_reaches}
 

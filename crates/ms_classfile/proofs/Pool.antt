@@ -8,7 +8,7 @@ use Rattle.ms_pool.specs.Numbers.{width1, width2}
 use Rattle.ms_classfile.specs.ThinFile.{Entry, Utf8, Class, u1, u2, spelled_entry, spelled_pool, EntryFits, is_linked}
 use Rattle.ms_classfile.specs.Reading.{provided, u1_at, u2_at, bytes_at, repeated, text_at, class_at, entry_at, pool_at}
 use Rattle.ms_classfile.proofs.Steps.{then_some, provided_some, some_is, either}
-use Rattle.ms_classfile.proofs.Fields.{Takes, Takes-is, Reaches, number_takes, number_reaches, run_takes, run_reaches, repeated_takes, repeated_reaches}
+use Rattle.ms_classfile.proofs.Spelling.{Takes, Takes-is, Reaches, number_takes, number_reaches, run_takes, run_reaches, repeated_takes, repeated_reaches}
 
 text_takes : (start front : List ℕ) (place : Place) (x : Entry × Place) → Takes start (front ++ u1 1) place.left → text_at place ≡ Some x → Takes start (front ++ spelled_entry x.0) x.1.left × EntryFits x.0
 unfolding text_at

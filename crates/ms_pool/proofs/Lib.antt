@@ -8,3 +8,4 @@ mod Slots
 mod Placing
 mod Whole
 mod Linked
+mod Parts

@@ -23,7 +23,7 @@ text_held entry = None
 abbrev pub utf8 : List (Option Placed) → ℕ → Option (List ℕ)
 utf8 slots i = option_and_then text_held (entry_of slots i)
 
--- the text that an entry names, where it has this tag
+-- the text that a Class or a String names, where it has this tag, which is 7 or 8
 abbrev pub text_named : ℕ → List (Option Placed) → Entry → Option (List ℕ)
 text_named wanted slots (One tag index) = if tag == wanted then utf8 slots index else None
 text_named wanted slots entry = None
@@ -110,7 +110,8 @@ abbrev pub found_at : ℕ → Read Entry → Option Placed
 found_at at (Ok x) = Some (record { at = at; entry = x.0 })
 found_at at (Err fault) = None
 
--- the entry that stands in these bytes, its tag at this place, wherever the pool ends
+-- The entry that stands whole in these bytes with its tag at this place. Place 0 is none: the tags of a pool stand
+-- behind its count.
 abbrev pub entry_in : List ℕ → ℕ → Option Placed
 entry_in bytes at = if at == 0 then None else found_at at (entry_at 2 (place_in bytes at))
 

@@ -1,4 +1,5 @@
--- For private functions: what the readers of a pool return, seen as the definitions have it.
+-- What the readers of a pool return, seen as the definitions have it. But for `member_view`, these are for private
+-- functions.
 use Rattle.std.specs.Prelude.{◌≡◌, ◌⊎◌, Result, Ok, Err, List, ◌∷◌, ℕ}
 use Rattle.ms_pool.specs.declared.pool.PoolFault.{PoolFault}
 use Rattle.ms_pool.specs.declared.pool.PoolFault.TheVariants.{NoMemory}

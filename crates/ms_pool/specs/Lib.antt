@@ -4,3 +4,5 @@ pub mod Pools
 pub mod PoolReading
 pub mod ByNumber
 pub mod Found
+pub mod Formats
+pub mod Exact

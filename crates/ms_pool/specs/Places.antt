@@ -8,7 +8,7 @@ pub record Place : Type 0 where
   pub at : ℕ
   pub left : List ℕ
 
--- the place in these bytes that so many of them come before
+-- the place in these bytes that so many of them come before; behind their end nothing is left
 abbrev pub place_in : List ℕ → ℕ → Place
 place_in bytes at = record { at = at; left = drop at bytes }
 
@@ -20,7 +20,7 @@ beginning bytes = record { at = 0; left = bytes }
 abbrev pub behind : Place → ℕ → Place
 behind place n = record { at = place.at + n; left = drop n place.left }
 
--- the n bytes of a number, the highest first
+-- the lowest n bytes of a number, the highest of them first
 abbrev pub number_bytes : ℕ → ℕ → List ℕ
 number_bytes n number = big_bytes n number
 
@@ -32,7 +32,15 @@ run_at n place = if nat_lt (length place.left) n then Err (record { at = place.a
 abbrev pub number_at : ℕ → Place → Result (ℕ × Place) Short
 number_at n place = if nat_lt (length place.left) n then Err (record { at = place.at }) else Ok (big_number n place.left, behind place n)
 
--- A read gave what the definition gives at the old place, seen by view, and led to the place behind
+-- the place, with n bytes from it on alone
+abbrev pub first_of : Place → ℕ → Place
+first_of place n = record { at = place.at; left = take n place.left }
+
+-- the first n bytes from a place as a place of their own, and the place behind them
+abbrev pub part_at : ℕ → Place → Result (Place × Place) Short
+part_at n place = if nat_lt (length place.left) n then Err (record { at = place.at }) else Ok (first_of place n, behind place n)
+
+-- What a read gave, seen by view, is what the definition gives at the old place, and it led to the place behind
 -- it. One that doesn't fit stays where it was.
 abbrev pub Reads : {X Y : Type 0} → (X → Y) → (Place → Result (Y × Place) Short) → Place → Result X Short → Place → Type 0
 Reads view reading old (Ok x) new = reading old ≡ Ok (view x, new)

@@ -1,5 +1,5 @@
--- For private functions: how a pool's entries are read, part by part, from left to right. That this agrees with
--- how they are spelled, and with the first fault, is a law.
+-- How a pool is read, part by part from left to right. That this agrees with how it is spelled, and with the first
+-- fault, is proved; what is cited of it is the entry at a place, for an index of places.
 use Rattle.std.specs.Prelude.{ℕ, zero, suc, ◌-◌, List, [], ◌∷◌, Option, Some, None, ◌==◌, if◌then◌else◌, Result, Ok, Err}
 use Rattle.ms_pool.specs.declared.cursor.Short as cursor
 use Rattle.ms_pool.specs.declared.pool.PoolFault.{PoolFault}

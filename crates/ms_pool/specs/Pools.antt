@@ -9,7 +9,7 @@ use Rattle.ms_pool.specs.Places.{Place, behind, number_bytes}
 
 -- ENTRIES
 
--- what an entry holds, behind its tag
+-- an entry: its tag, where its form has several, and what it holds
 pub data Entry : Type 0 where
   -- Utf8: a text
   Utf8 : List ℕ → Entry
@@ -172,7 +172,8 @@ pub record IsPoolOf (place : Place) (slots : List (Option Placed)) (after : Plac
 
 -- THE FIRST FAULT
 
--- where one of several parts of so many bytes doesn't fit in what is left: the place where it would begin
+-- of several parts of so many bytes, one behind the other, the first that doesn't fit in what is left: the place where
+-- it would begin
 abbrev pub short_in : List ℕ → Place → Option PoolFault
 short_in [] place = None
 short_in (n ∷ parts) place = if nat_lt (length place.left) n then Some (Short place.at) else short_in parts (behind place n)
@@ -208,7 +209,7 @@ pub record EntryHasFault (place : Place) (fault : PoolFault) : Type 0 where
   pub more : width before + 1 < count
   pub fault_is : fault_of_entry (count - 1 - width before) (record { at = place.at + 2 + length (flat_map spelled_entry before); left = rest }) ≡ Some fault
 
--- all entries are whole, and the first that names a number without the wanted tag has its tag there
+-- all entries are whole, and the fault is at the tag of the first that names a number without the wanted tag
 pub record LinkHasFault (place : Place) (fault : PoolFault) : Type 0 where
   pub entries : List Entry
   pub rest : List ℕ
@@ -226,12 +227,13 @@ IsFirstFault place fault =
     ⊎ EntryHasFault place fault
     ⊎ LinkHasFault place fault
 
--- the bytes begin with a pool, or they have a first fault
+-- the bytes begin with a pool
 pub record HasPool (place : Place) : Type 0 where
   pub entries : List Entry
   pub after : Place
   pub is : IsPool place entries after
 
+-- they have a first fault
 pub record HasFirstFault (place : Place) : Type 0 where
   pub fault : PoolFault
   pub is : IsFirstFault place fault

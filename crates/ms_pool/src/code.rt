@@ -2,7 +2,7 @@ ghost use Rattle.std.specs.Prelude.{◌≡◌};
 
 use std::marker::Model;
 
-/// Why bytes are no class file, by kind (JVMS SE 8, chapter 4). Which place each has is said where faults are found.
+/// Why bytes aren't read as a class file (JVMS SE 8, chapter 4), by kind. `read_class` says which place each has.
 #[derive(Clone, Copy, Debug, PartialEq, Eq)]
 pub enum ClassKind {
     /// A number, or a run of bytes, doesn't fit in what is left.
@@ -11,13 +11,13 @@ pub enum ClassKind {
     Magic,
     /// The major version is outside 45 to 52.
     Version,
-    /// The pool's count is 0, or an entry can't be one.
+    /// The pool's count is 0, a tag is unknown, or a Long or Double would take a number too many.
     Pool,
     /// A number of the pool doesn't have the tag that is wanted.
     Index,
-    /// An attribute that counts isn't as it should be.
+    /// A Code or a ConstantValue that counts hasn't the form that it should have, or a method has two Codes.
     Shape,
-    /// The class's parent isn't java/lang/Object, or the class is one of those that a run throws.
+    /// The direct superclass isn't java/lang/Object, or the class has the name of a known throwable.
     Super,
     /// A second field or method has the name and descriptor of an earlier one.
     Duplicate,
@@ -25,9 +25,10 @@ pub enum ClassKind {
     Trailing,
     /// An instruction passes the end of the code.
     Cut,
-    /// A branch, or an entry of an exception table, leads to no instruction's start.
+    /// A branch, or an entry of an exception table, leads to no instruction's start, or an entry's range is empty. Its
+    /// end may be the end of the code.
     Target,
-    /// The bounds or the keys of a switch aren't in order.
+    /// The bounds or the keys of a switch aren't in order, or the number of its keys is negative.
     Switch,
 }
 

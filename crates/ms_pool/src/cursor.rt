@@ -32,7 +32,7 @@ impl<'a> Model for Cursor<'a> {
 }
 
 impl<'a> Cursor<'a> {
-    ghost use Rattle.ms_pool.specs.Places.{Reads, beginning, number_at, place_in, run_at};
+    ghost use Rattle.ms_pool.specs.Places.{Reads, beginning, number_at, part_at, place_in, run_at};
 
     /// The cursor at the beginning of the bytes.
     pub fn new(bytes: &'a [u8]) -> Cursor<'a>
@@ -109,6 +109,21 @@ impl<'a> Cursor<'a> {
         ensures { Reads (λ bytes. bytes.now) (run_at n) self.old result self.new }
     {
         self.run(n as usize)
+    }
+
+    /// The next `n` bytes, as a cursor that ends with them: it stands at the same place of the bytes.
+    pub fn part(&mut self, n: u32) -> Result<Cursor<'a>, Short>
+        ensures { Reads (λ part. part) (part_at n) self.old result self.new }
+    {
+        let at = self.at;
+        if self.bytes.len() - at < n as usize {
+            return Err(Short { at: at as u64 });
+        }
+        self.at = at + n as usize;
+        Ok(Cursor {
+            bytes: &self.bytes[..self.at],
+            at,
+        })
     }
 
     fn run(&mut self, n: usize) -> Result<&'a [u8], Short>

@@ -24,7 +24,7 @@ pub struct Member<'a> {
 /// place for each number below the pool's count: that of the entry's tag, or 0 where no entry has the number.
 ///
 /// Each getter is given the bytes once more. They are to be those that were read: for others it answers what stands
-/// in them at those places, which is no pool's entry. No getter takes memory.
+/// in them at those places, which needn't be the pool's entry. No getter takes memory.
 #[derive(Debug, Drop)]
 pub struct PoolIndex {
     places: Vec<usize>,

@@ -20,7 +20,8 @@ pub enum PoolFault {
     /// the place of the count or the tag.
     #[error("the pool can't be as the number at {at} says")]
     Pool { at: u64 },
-    /// An entry names a number that no entry of the wanted tag has: the place of the entry's tag.
+    /// All entries are whole, and one of a tag from 7 to 12 names a number that no entry of the wanted tag has: the
+    /// place of the first such entry's tag, in order of number.
     #[error("the pool's entry at {at} names a number without the wanted tag")]
     Index { at: u64 },
     /// Memory ran out.
@@ -66,7 +67,7 @@ pub fn pools_are_whole_or_have_a_fault()
 pub fn pools_hold_what_they_name()
     // The places of a pool, in the bytes that it was read from, lead to its entries.
     ensures index { (bytes : List ℕ) (at : ℕ) (entries : List Entry) (after : Place) → IsPool (place_in bytes at) entries after → entries_in bytes (places_of (numbered at entries)) ≡ numbered at entries }
-    // As many numbers as the count says.
+    // There are as many numbers as the count says, with the number 0.
     ensures count { (at : ℕ) (entries : List Entry) → length (numbered at entries) ≡ width entries + 1 }
     // What is said of a number is there exactly where its entry has the tag.
     ensures utf8 { (place after : Place) (entries : List Entry) → IsPool place entries after → (i : ℕ) → is_some (utf8 (numbered place.at entries) i) ≡ has_tag (numbered place.at entries) i 1 }

@@ -158,8 +158,8 @@ fn read<'a>(alloc: Global, bytes: &'a [u8], cursor: &mut Cursor<'a>) -> Result<P
     Ok(Pool { bytes, index })
 }
 
-/// Reads a constant pool from the cursor, whose count comes first (JVMS SE 8, section 4.1). It takes memory for a
-/// place for each number. After a fault the cursor may stand anywhere.
+/// Reads the constant pool at the cursor, its count first (JVMS SE 8, section 4.1). It takes memory for a place for
+/// each number. After a fault the cursor may stand anywhere. That memory ran out has no cause in a clause.
 pub fn read_pool<'a>(alloc: Global, cursor: &mut Cursor<'a>) -> Result<Pool<'a>, PoolFault>
     // The bytes begin with the pool that is found, and the cursor goes behind it.
     ensures pool { IfOk result (λ pool. IsPoolOf cursor.old pool cursor.new) }
