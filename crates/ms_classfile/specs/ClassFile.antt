@@ -74,6 +74,7 @@ short at = At kinds.Short at
 abbrev pub shape : ℕ → ℕ → ClassFault
 shape attribute_at at = At kinds.Shape attribute_at
 
+-- a number of two bytes, and of four
 abbrev pub u2 : (ℕ → ClassFault) → Format ClassFault ℕ
 u2 too_short = number too_short 2
 
@@ -156,6 +157,7 @@ constant_value pool at = do
   value ← indexed short (integer pool)
   done value.1
 
+-- whether an attribute of this name is a ConstantValue
 abbrev pub is_constant_value : List ℕ → Bool
 is_constant_value name = bytes_eq name (codes "ConstantValue")
 
@@ -208,6 +210,7 @@ code pool attribute_at = do
 
 -- METHODS
 
+-- whether an attribute of this name is a Code
 abbrev pub is_code : List ℕ → Bool
 is_code name = bytes_eq name (codes "Code")
 
@@ -243,6 +246,7 @@ pool_fault (pool_faults.Pool at) = At kinds.Pool at
 pool_fault (pool_faults.Index at) = At kinds.Index at
 pool_fault pool_faults.NoMemory = NoMemory
 
+-- the entries of a pool whose count has this place, by their numbers, or the fault of the file
 abbrev pub pool_read : ℕ → Result (List Entry × Place) PoolFault → Result (List (Option Placed) × Place) ClassFault
 pool_read at (Ok x) = Ok (numbered at x.0, x.1)
 pool_read at (Err fault) = Err (pool_fault fault)

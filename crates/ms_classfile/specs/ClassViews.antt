@@ -6,6 +6,7 @@ use Rattle.ms_classfile.specs.declared.class.FieldRow.{FieldRow}
 use Rattle.ms_classfile.specs.declared.class.MethodRow.{MethodRow}
 use Rattle.ms_classfile.specs.ClassFile.{Class, Code, Field, Method}
 
+-- a field, a Code attribute, a method, a class
 abbrev pub field_view : FieldRow → Field
 field_view row = record { access = row.access; name = row.name.now; name_index = row.name_index; desc = row.desc.now; desc_index = row.desc_index; initial = row.initial }
 

@@ -102,6 +102,7 @@ is_walked parameters most depth [] = true
 is_walked parameters most depth (instruction ∷ code) =
     is_placed parameters most depth instruction code && is_walked parameters most (depth_after depth instruction) code
 
+-- whether an instruction is a return
 abbrev pub is_return : Instruction → Bool
 is_return (IloadN local) = false
 is_return (Iload local) = false

@@ -29,6 +29,7 @@ abbrev pub provided : {A : Type 0} → Bool → Option A → Option A
 provided true read = read
 provided false read = None
 
+-- a number of one byte, of two, of four, and a run of n bytes, each with the place behind it
 abbrev pub u1_at : Place → Option (ℕ × Place)
 u1_at place = result_ok (number_at 1 place)
 
@@ -51,6 +52,7 @@ repeated read (suc n) place = do
 
 -- THE CONSTANT POOL
 
+-- behind their tags, a text and a class
 unfoldable pub text_at : Place → Option (Entry × Place)
 text_at place = do
   size ← u2_at place
@@ -62,11 +64,13 @@ class_at place = do
   name ← u2_at place
   Some (Class name.0, name.1)
 
+-- an entry of the pool
 unfoldable pub entry_at : Place → Option (Entry × Place)
 entry_at place = do
   tag ← u1_at place
   if tag.0 == 1 then text_at tag.1 else provided (tag.0 == 7) (class_at tag.1)
 
+-- the pool: its count, and the entries, whose numbers name what they should
 unfoldable pub pool_at : Place → Option (List Entry × Place)
 pool_at place = do
   count ← u2_at place
@@ -83,6 +87,7 @@ attribute_at pool place = do
   content ← bytes_at size.0 size.1
   provided (is_some (utf8 pool name.0)) (Some (record { name = name.0; content = content.0 }, content.1))
 
+-- attributes: how many they are, and each
 unfoldable pub attributes_at : List Entry → Place → Option (List Attribute × Place)
 attributes_at pool place = do
   count ← u2_at place
@@ -138,6 +143,7 @@ operand_at opcode place =
     else (if nat_le 159 opcode && nat_le opcode 164 then branch_at IfIcmp (opcode - 159) place
     else option_map (λ instruction. (instruction, place)) (short_instruction opcode))))
 
+-- an instruction: its opcode, and its operand
 unfoldable pub instruction_at : Place → Option (Instruction × Place)
 instruction_at place = do
   opcode ← u1_at place

@@ -48,6 +48,7 @@ pub record ThinFile : Type 0 where
 
 -- HOW THEY ARE SPELLED
 
+-- a number of one byte, of two, of four
 abbrev pub u1 : ℕ → List ℕ
 u1 n = number_bytes 1 n
 
@@ -57,10 +58,12 @@ u2 n = number_bytes 2 n
 abbrev pub u4 : ℕ → List ℕ
 u4 n = number_bytes 4 n
 
+-- an entry: its tag, and what it holds
 abbrev pub spelled_entry : Entry → List ℕ
 spelled_entry (Utf8 text) = u1 1 ++ u2 (length text) ++ text
 spelled_entry (Class name) = u1 7 ++ u2 name
 
+-- an attribute: the number of its name, its length, what it holds
 abbrev pub spelled_attribute : Attribute → List ℕ
 spelled_attribute attribute = u2 attribute.name ++ u4 (length attribute.content) ++ attribute.content
 
@@ -81,6 +84,7 @@ spelled_code code =
 abbrev pub spelled_pool : List Entry → List ℕ
 spelled_pool pool = u2 (length pool + 1) ++ flat_map spelled_entry pool
 
+-- the magic number of class files (JVMS SE 8, section 4.1)
 abbrev pub magic : ℕ
 magic = 0xCAFEBABE
 
@@ -98,10 +102,12 @@ spelled_file file =
 abbrev pub entry_of : List Entry → ℕ → Option Entry
 entry_of pool number = if number == 0 then None else slice_get pool (number - 1)
 
+-- the text of an entry, where it is one
 abbrev pub text_of : Entry → Option (List ℕ)
 text_of (Utf8 text) = Some text
 text_of (Class name) = None
 
+-- the number of a class's name, where the entry is a class
 abbrev pub name_of : Entry → Option ℕ
 name_of (Utf8 text) = None
 name_of (Class name) = Some name
@@ -119,6 +125,7 @@ abbrev pub is_linked : List Entry → Entry → Bool
 is_linked pool (Utf8 text) = true
 is_linked pool (Class name) = is_some (utf8 pool name)
 
+-- whether the attribute's name is a text of the pool
 abbrev pub has_name : List Entry → Attribute → Bool
 has_name pool attribute = is_some (utf8 pool attribute.name)
 
@@ -162,10 +169,12 @@ pub record AttributeFits (attribute : Attribute) : Type 0 where
   pub name : attribute.name < 2 ^ 16
   pub content : length attribute.content < 2 ^ 32
 
+-- attributes that can be written
 pub record AttributesFit (attributes : List Attribute) : Type 0 where
   pub number : length attributes < 2 ^ 16
   pub each : AllByRecursion AttributeFits attributes
 
+-- an entry that can be written
 abbrev pub EntryFits : Entry → Type 0
 EntryFits (Utf8 text) = length text < 2 ^ 16
 EntryFits (Class name) = name < 2 ^ 16

@@ -14,9 +14,11 @@ most_line_bytes = 4096
 abbrev pub is_plain : List ℕ → Bool
 is_plain line = nat_le (length line) most_line_bytes && list_all is_plain_byte line
 
+-- whether a byte is a space
 abbrev pub is_space : ℕ → Bool
 is_space byte = byte == 32
 
+-- whether a part of a line has a byte: then it is a token
 abbrev pub is_filled : List ℕ → Bool
 is_filled part = not (length part == 0)
 

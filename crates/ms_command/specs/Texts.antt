@@ -20,6 +20,7 @@ is_printed byte = nat_le 0x21 byte && nat_le byte 0x7E && not (byte == 92)
 abbrev pub printed_byte : ℕ → List ℕ
 printed_byte byte = if is_printed byte then byte ∷ [] else 92 ∷ 120 ∷ hex_digit (byte / 16) ∷ hex_digit (byte % 16) ∷ []
 
+-- a name as it is printed
 abbrev pub printed_name : List ℕ → List ℕ
 printed_name name = flat_map printed_byte name
 

@@ -14,6 +14,7 @@ use Rattle.ms_machine.specs.Control.{Program, View, Views, NoInitialiser}
 
 -- WHAT AN INSTRUCTION DOES
 
+-- the comparison of a branch
 abbrev pub comparison_of : Condition → Comparison
 comparison_of Eq = Equal
 comparison_of Ne = NotEqual
@@ -22,6 +23,7 @@ comparison_of Ge = AtLeast
 comparison_of Gt = Greater
 comparison_of Le = AtMost
 
+-- an instruction of the machine for one of a file
 abbrev pub instr_of : Instruction → Instr
 instr_of (IloadN local) = Load local
 instr_of (Iload local) = Load local
@@ -79,6 +81,7 @@ first_view offset (instruction ∷ code) = Some (record {
   initialiser = None;
 })
 
+-- what the machine sees at an item: the instruction there, where one begins
 abbrev pub views_of : List Instruction → Views
 views_of code Entry = None
 views_of code (At class method offset) = cond ((class == 0) && (method == 0)) (first_view offset (code_from offset code)) None

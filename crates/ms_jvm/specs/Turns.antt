@@ -19,6 +19,7 @@ use Rattle.ms_jvm.specs.declared.turn.Turn.TheVariants as turns
 abbrev pub marked : Words → List Marked
 marked x = map mark_of (given x)
 
+-- the locals at the start: the parameters
 abbrev pub locals_of : {V : Type 0} → List V → List (Option (Value V))
 locals_of parameters = map (λ a. Some (Int a)) parameters
 

@@ -45,6 +45,7 @@ pub record EntryView : Type 0 where
 abbrev pub Views : Type 0
 Views = Item → Option View
 
+-- a program: what the machine sees of its entry, and at each item
 pub record Program : Type 0 where
   pub entry : EntryView
   pub view : Views
@@ -58,6 +59,7 @@ pub record Frame (V : Type 0) : Type 0 where
   pub stack : List (Value V)
   pub initialises : Option ℕ
 
+-- a state: the frame that runs, those that wait below it, and the memory
 pub record State (V : Type 0) : Type 0 where
   pub top : Frame V
   pub below : List (Frame V)
@@ -68,11 +70,13 @@ pub data Done (V : Type 0) : Type 0 where
   Goes : State V → Done V
   Ends : End V → Done V
 
+-- what the running frame has before it
 abbrev pub here_of : {V : Type 0} → State V → Here V
 here_of state = record { locals = state.top.locals; stack = state.top.stack; memory = state.memory }
 
 -- WHERE A DOING LEADS
 
+-- what comes of a view, where there is one
 abbrev pub viewed : {A : Type 0} → Option View → A → (View → A) → A
 viewed None none go = none
 viewed (Some view) none go = go view
@@ -82,6 +86,7 @@ abbrev pub goes_on : {V : Type 0} → Option Item → Frame V → List (Frame V)
 goes_on None frame below memory = Ends Stuck
 goes_on (Some item) frame below memory = Goes (record { top = record frame { at = item }; below = below; memory = memory })
 
+-- the item of a place that an effect names
 abbrev pub place : View → Where → Option Item
 place view Next = view.next
 place view (Target k) = slice_get view.targets k
@@ -124,6 +129,7 @@ returned_with (Some (Array number)) = Stuck
 returned_with (Some (Text bytes)) = Stuck
 returned_with (Some (Throwable number class)) = Stuck
 
+-- a value on a stack, where there is one
 abbrev pub onto : {V : Type 0} → Option (Value V) → List (Value V) → List (Value V)
 onto None stack = stack
 onto (Some v) stack = v ∷ stack
@@ -167,6 +173,7 @@ pub data Step (V : Type 0) : Type 0 where
   Then : Done V → Step V
   Chooses : Test V → (ℕ → Done V) → Step V
 
+-- what a step is: a doing performed, or a test with what each arm performs
 abbrev pub performed : {V : Type 0} → Views → State V → Effect V → Step V
 performed P state (Does doing) = Then (perform P state doing)
 performed P state (Asks test arms) = Chooses test (λ arm. perform P state (arms arm))
@@ -177,9 +184,11 @@ step I P state = viewed (P state.top.at) (Then (Ends Stuck)) (λ view. performed
 
 -- THE START
 
+-- the memory in which this class alone is started
 abbrev pub memory_at_start : {V : Type 0} → ℕ → Memory V
 memory_at_start class = record { statics = []; started = class ∷ []; arrays = []; throwables = [] }
 
+-- the frame of the entry, with these parameters
 abbrev pub entry_frame : {V : Type 0} → Item → List V → Frame V
 entry_frame item parameters = record { at = item; locals = map (λ a. Some (Int a)) parameters; stack = []; initialises = None }
 

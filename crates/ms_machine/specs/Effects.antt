@@ -19,6 +19,7 @@ pub data Comparison : Type 0 where
   Greater : Comparison
   AtMost : Comparison
 
+-- the relation that a comparison is
 abbrev pub relation : Comparison → Rel
 relation Equal = Eq
 relation NotEqual = Ne
@@ -27,6 +28,7 @@ relation AtLeast = Ge
 relation Greater = Gt
 relation AtMost = Le
 
+-- the instructions, in groups
 pub data Instr : Type 0 where
   -- puts a word on the stack
   Push : ℤ → Instr
@@ -45,6 +47,7 @@ pub data Instr : Type 0 where
 
 -- VALUES AND MEMORY
 
+-- the values: an int, or one of the others
 pub data Value (V : Type 0) : Type 0 where
   Int : V → Value V
   Null : Value V
@@ -97,6 +100,7 @@ pub data Where : Type 0 where
   Next : Where
   Target : ℕ → Where
 
+-- what an instruction does once its tests are known
 pub data Doing (V : Type 0) : Type 0 where
   -- goes on in the same frame
   Moves : Where → Here V → Doing V
@@ -126,6 +130,7 @@ pub data Effect (V : Type 0) : Type 0 where
 
 -- OPERANDS
 
+-- no rule applies
 abbrev pub stuck : {V : Type 0} → Effect V
 stuck = Does (Stops Stuck)
 
@@ -134,6 +139,7 @@ abbrev pub on_top : {V : Type 0} → List (Value V) → (Value V → List (Value
 on_top [] go = stuck
 on_top (top ∷ below) go = go top below
 
+-- with the int that a value is
 abbrev pub as_int : {V : Type 0} → Value V → (V → Effect V) → Effect V
 as_int (Int a) go = go a
 as_int Null go = stuck
@@ -145,6 +151,7 @@ as_int (Throwable number class) go = stuck
 abbrev pub on_int : {V : Type 0} → List (Value V) → (V → List (Value V) → Effect V) → Effect V
 on_int stack go = on_top stack (λ top below. as_int top (λ a. go a below))
 
+-- with what is there
 abbrev pub on_some : {V A : Type 0} → Option A → (A → Effect V) → Effect V
 on_some None go = stuck
 on_some (Some a) go = go a
@@ -153,6 +160,7 @@ on_some (Some a) go = go a
 abbrev pub next : {V : Type 0} → Here V → List (Value V) → Doing V
 next here stack = Moves Next (record here { stack = stack })
 
+-- goes on at the first target
 abbrev pub jump : {V : Type 0} → Here V → List (Value V) → Doing V
 jump here stack = Moves (Target 0) (record here { stack = stack })
 
@@ -163,6 +171,7 @@ by_arm first second (suc arm) = second
 
 -- WHAT EACH INSTRUCTION DOES
 
+-- the effect of an instruction (JVMS SE 8, section 6.5)
 abbrev pub effect : {V : Type 0} → Ints V → Instr → Here V → Effect V
 effect I (Push word) here = Does (next here (Int (I.constant word) ∷ here.stack))
 effect I (Load local) here = on_some (slice_get here.locals local) (λ held. on_some held (λ v. Does (next here (v ∷ here.stack))))

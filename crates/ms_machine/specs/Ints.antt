@@ -17,10 +17,12 @@ pub record Ints (V : Type 0) : Type 0 where
 
 -- A RUN ON ONE INPUT: an int is a word and its shadow, a term over the parameters
 
+-- a word with its shadow
 pub record Int : Type 0 where
   pub word : ℤ
   pub shadow : Term
 
+-- the ints that are words with shadows
 abbrev pub ints : Ints Int
 ints = record {
   constant = λ word. record { word = word; shadow = Constant word };
@@ -31,15 +33,18 @@ ints = record {
 
 -- WITHOUT AN INPUT: an int is a term
 
+-- the ints that are shadows alone
 abbrev pub shadows : Ints Term
 shadows = record { constant = Constant; unary = unary; binary = binary; known = constant_of }
 
 -- WITH MARKS: an int is a word, and whether no parameter entered it
 
+-- a word, and whether its shadow is constant
 pub record Marked : Type 0 where
   pub word : ℤ
   pub plain : Bool
 
+-- the ints that are words with marks
 abbrev pub marks : Ints Marked
 marks = record {
   constant = λ word. record { word = word; plain = true };

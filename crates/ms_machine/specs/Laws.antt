@@ -23,6 +23,7 @@ abbrev pub parameters_from : ℕ → List Kind → List Term
 parameters_from index [] = []
 parameters_from index (kind ∷ kinds) = Param index kind ∷ parameters_from (suc index) kinds
 
+-- the start with a term for each parameter
 abbrev pub shadow_started : Program → List Kind → Done Term
 shadow_started P kinds = start P (parameters_from 0 kinds)
 
@@ -52,6 +53,7 @@ mark_of a = record { word = a.word; plain = is_constant a.shadow }
 abbrev pub mark_arm : Test Marked → ℕ
 mark_arm test = arm_of (map_test (λ a. a.word) test)
 
+-- the start with a mark at each word
 abbrev pub marked_start : Program → Words → Done Marked
 marked_start P x = start P (map mark_of (given x))
 
@@ -64,6 +66,7 @@ pub record MarksAreRight (P : Program) (x : Words) : Type 0 where
 
 -- WITH AND WITHOUT AN INPUT
 
+-- the shadow of a word with its shadow
 abbrev pub shadow_of : Int → Term
 shadow_of a = a.shadow
 
@@ -112,6 +115,7 @@ LeastIsFirst P = (p : List ℕ) (x y : Words) → IsLeast P p x → IsInputOf P 
 abbrev pub LeastIsUnique : Program → Type 0
 LeastIsUnique P = (p : List ℕ) (x y : Words) → IsLeast P p x → IsLeast P p y → x ≡ y
 
+-- a string has a least input
 pub record HasLeast (P : Program) (p : List ℕ) : Type 0 where
   pub x : Words
   pub is : IsLeast P p x

@@ -17,6 +17,7 @@ pub record Respects {V W : Type 0} (I : Ints V) (J : Ints W) (f : V → W) : Typ
   pub binary : (op : Bin) (a b : V) → f (I.binary op a b) ≡ J.binary op (f a) (f b)
   pub known : (a : V) → J.known (f a) ≡ I.known a
 
+-- a map of ints carried to values, to lists of them, to locals
 abbrev pub map_value : {V W : Type 0} → (V → W) → Value V → Value W
 map_value f (Int a) = Int (f a)
 map_value f Null = Null
@@ -30,6 +31,7 @@ map_values f values = map (map_value f) values
 abbrev pub map_locals : {V W : Type 0} → (V → W) → List (Option (Value V)) → List (Option (Value W))
 map_locals f locals = map (option_map (map_value f)) locals
 
+-- to a static, to the memory
 abbrev pub map_static : {V W : Type 0} → (V → W) → Static V → Static W
 map_static f static = record { class = static.class; name = static.name; descriptor = static.descriptor; value = map_value f static.value }
 
@@ -41,9 +43,11 @@ map_memory f memory = record {
   throwables = memory.throwables;
 }
 
+-- to what a frame has before it
 abbrev pub map_here : {V W : Type 0} → (V → W) → Here V → Here W
 map_here f here = record { locals = map_locals f here.locals; stack = map_values f here.stack; memory = map_memory f here.memory }
 
+-- to an end
 abbrev pub map_end : {V W : Type 0} → (V → W) → End V → End W
 map_end f (Returned v) = Returned (f v)
 map_end f ReturnedVoid = ReturnedVoid
@@ -56,6 +60,7 @@ map_end f SymLength = SymLength
 map_end f HeapFull = HeapFull
 map_end f Stuck = Stuck
 
+-- to what an instruction does, and to its effect
 abbrev pub map_doing : {V W : Type 0} → (V → W) → Doing V → Doing W
 map_doing f (Moves where_to here) = Moves where_to (map_here f here)
 map_doing f (Calls arguments here) = Calls (map_values f arguments) (map_here f here)
@@ -68,6 +73,7 @@ abbrev pub map_effect : {V W : Type 0} → (V → W) → Effect V → Effect W
 map_effect f (Does doing) = Does (map_doing f doing)
 map_effect f (Asks test arms) = Asks (map_test f test) (λ arm. map_doing f (arms arm))
 
+-- to a frame, to a state, to what a doing leads to
 abbrev pub map_frame : {V W : Type 0} → (V → W) → Frame V → Frame W
 map_frame f frame = record { at = frame.at; locals = map_locals f frame.locals; stack = map_values f frame.stack; initialises = frame.initialises }
 
@@ -78,10 +84,12 @@ abbrev pub map_done : {V W : Type 0} → (V → W) → Done V → Done W
 map_done f (Goes state) = Goes (map_state f state)
 map_done f (Ends end) = Ends (map_end f end)
 
+-- to a step
 abbrev pub map_step : {V W : Type 0} → (V → W) → Step V → Step W
 map_step f (Then done) = Then (map_done f done)
 map_step f (Chooses test arms) = Chooses (map_test f test) (λ arm. map_done f (arms arm))
 
+-- to what follows a segment, to the end of a run, to a segment
 abbrev pub map_after : {V W : Type 0} → (V → W) → After V → After W
 map_after f (Choice test arms) = Choice (map_test f test) (λ arm. map_done f (arms arm))
 map_after f (Over end) = Over (map_end f end)

@@ -40,6 +40,7 @@ pub data RunEnd (V : Type 0) : Type 0 where
   Ended : End V → RunEnd V
   Cut : RunEnd V
 
+-- the end of a run, where no choice comes
 abbrev pub end_at : {V : Type 0} → After V → RunEnd V
 end_at (Choice test arms) = Cut
 end_at (Over end) = Ended end
@@ -56,9 +57,11 @@ given_from index [] words = []
 given_from index (kind ∷ kinds) [] = []
 given_from index (kind ∷ kinds) (word ∷ words) = record { word = word; shadow = Param index kind } ∷ given_from (suc index) kinds words
 
+-- the words of an input, each with its parameter as its shadow
 abbrev pub given : Words → List Int
 given x = given_from 0 x.kinds x.words
 
+-- the start of an input
 abbrev pub started : Program → Words → Done Int
 started P x = start P (given x)
 

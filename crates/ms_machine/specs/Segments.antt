@@ -16,9 +16,11 @@ pub record Segment (V : Type 0) : Type 0 where
   pub trace : List Item
   pub after : After V
 
+-- a segment of no instruction
 abbrev pub nothing_then : {V : Type 0} → After V → Segment V
 nothing_then after = record { trace = []; after = after }
 
+-- a segment with one instruction before it
 abbrev pub item_then : {V : Type 0} → Item → Segment V → Segment V
 item_then item segment = record { trace = item ∷ segment.trace; after = segment.after }
 
@@ -27,6 +29,7 @@ abbrev pub forked : {V : Type 0} → Test V → (ℕ → Done V) → (Done V →
 forked test arms go None = nothing_then (Choice test arms)
 forked test arms go (Some words) = go (arms (arm_of words))
 
+-- a step, followed in the segment
 abbrev pub followed : {V : Type 0} → Ints V → (Done V → Segment V) → Step V → Segment V
 followed I go (Then done) = go done
 followed I go (Chooses test arms) = forked test arms go (known_test I test)
@@ -42,6 +45,7 @@ segment_within I P (suc n) (Goes state) = item_then state.top.at (followed I (se
 unfoldable pub most_instructions : ℕ
 most_instructions = 20000
 
+-- the segment with that bound
 abbrev pub segment_from : {V : Type 0} → Ints V → Views → Done V → Segment V
 segment_from I P done = segment_within I P most_instructions done
 
@@ -54,6 +58,7 @@ abbrev pub past : {V : Type 0} → Done V → (ℕ → Done V) → (Done V → D
 past here arms go None = here
 past here arms go (Some words) = go (arms (arm_of words))
 
+-- a step, where the run goes on unless it stands at a choice
 abbrev pub advanced : {V : Type 0} → Ints V → Done V → (Done V → Done V) → Step V → Done V
 advanced I here go (Then done) = go done
 advanced I here go (Chooses test arms) = past here arms go (known_test I test)

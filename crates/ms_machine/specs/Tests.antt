@@ -35,6 +35,7 @@ arms_of (Divides b) = 2
 arms_of (Selects a keys) = suc (length keys)
 arms_of (Indexes a len) = suc len
 
+-- a map of ints carried to a test
 abbrev pub map_test : {V W : Type 0} → (V → W) → Test V → Test W
 map_test f (Compares comparison a b) = Compares comparison (f a) (f b)
 map_test f (Divides b) = Divides (f b)
@@ -43,11 +44,13 @@ map_test f (Indexes a len) = Indexes (f a) len
 
 -- WHERE A TEST IS NO CHOICE: no parameter entered its ints
 
+-- the comparison of two words, where both are known
 abbrev pub both_known : Comparison → Option ℤ → Option ℤ → Option (Test ℤ)
 both_known comparison None b = None
 both_known comparison (Some v) None = None
 both_known comparison (Some v) (Some w) = Some (Compares comparison v w)
 
+-- the test of one word, where it is known
 abbrev pub one_known : (ℤ → Test ℤ) → Option ℤ → Option (Test ℤ)
 one_known test None = None
 one_known test (Some word) = Some (test word)
@@ -67,6 +70,7 @@ pub record Literal (V : Type 0) : Type 0 where
   pub a : V
   pub b : V
 
+-- a map of ints carried to a literal
 abbrev pub map_literal : {V W : Type 0} → (V → W) → Literal V → Literal W
 map_literal f literal = record { rel = literal.rel; a = f literal.a; b = f literal.b }
 

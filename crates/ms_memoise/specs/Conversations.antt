@@ -21,6 +21,7 @@ pub record Outside : Type 0 where
   pub shelf : ShelfSide
   pub sink : SinkSide
 
+-- the outside by its parts
 abbrev pub outside : Option (List ℕ) → ℕ → ShelfSide → Option (List ℕ) → ℕ → Outside
 outside left read_faults shelf taken write_faults =
     record { source = record { left = left; faults = read_faults }; shelf = shelf; sink = sink_side taken write_faults }

@@ -9,7 +9,7 @@ use Rattle.ms_command.specs.declared.reply.Reply.{Reply}
 use Rattle.ms_command.specs.Commands.{command_of}
 use Rattle.ms_session.specs.Outside.{AreAnswers, ShelfPasses, ShelfSide}
 use Rattle.ms_session.specs.States.{State, new_state}
-use Rattle.ms_session.specs.Steps.{Next, names_in, next, reply_alone}
+use Rattle.ms_session.specs.Steps.{Next, names_in, next, replied}
 
 -- a line, and the shelf's answers to the names of files in it, in their order
 pub record Event : Type 0 where
@@ -27,7 +27,7 @@ asked line = names_of (command_of line)
 
 -- what is written, and the state then: a line that is no command gets its refusal, and changes nothing
 abbrev pub next_for : State → Result Command Reply → List Answer → Next
-next_for state (Err reply) answers = reply_alone state reply
+next_for state (Err reply) answers = replied state reply
 next_for state (Ok command) answers = next state command answers
 
 -- the same for an event
@@ -44,6 +44,7 @@ abbrev pub state_after : State → List Event → State
 state_after state [] = state
 state_after state (event ∷ events) = state_after (next_of state event).state events
 
+-- the lines of events
 abbrev pub lines_of : List Event → List (List ℕ)
 lines_of events = map (λ event. event.line) events
 

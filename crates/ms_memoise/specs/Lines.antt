@@ -4,6 +4,7 @@ use Rattle.std.specs.Prelude.{ℕ, ◌-◌, List, length, take, map, Bool, ◌==
 use Rattle.std.specs.List.{slice_split}
 use Rattle.std.specs.Str.Lines.{strip_carriage_return}
 
+-- whether a byte is a line feed
 abbrev pub is_line_feed : ℕ → Bool
 is_line_feed byte = byte == 10
 

@@ -42,6 +42,7 @@ TurnStops ReadFault kept bytes state before now =
 TurnStops status kept bytes state before now =
     (now.source.faults ≡ before.source.faults) × Broke status (up_to_quit (ended_lines kept bytes)) state before.shelf now.shelf before.sink now.sink
 
+-- a turn that took at most so many bytes, and broke off
 pub record TurnBroke (status : Status) (most : ℕ) (kept : List ℕ) (state : State) (before now : Outside) : Type 0 where
   pub bytes : List ℕ
   pub took : Consumes before.source.left now.source.left bytes
@@ -67,6 +68,7 @@ Limited TooMuchInput kept bytes state state_now before now =
 Limited status kept bytes state state_now before now =
     (bytes ≡ []) × (now.source.faults ≡ before.source.faults) × IsAtEnd now.source.left × Finishes status (last_lines kept) state state_now before.shelf now.shelf before.sink now.sink
 
+-- the turn in which no more bytes are to be taken
 pub record AtLimit (status : Status) (kept : List ℕ) (state state_now : State) (before now : Outside) : Type 0 where
   pub bytes : List ℕ
   pub took : Consumes before.source.left now.source.left bytes

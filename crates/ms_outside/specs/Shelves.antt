@@ -28,6 +28,7 @@ pub data Answer : Type 0 where
 abbrev pub most_bytes : ℕ
 most_bytes = 1048576
 
+-- the answer for what a file holds, where there is one
 abbrev pub answer_of_contents : Option (List ℕ) → Answer
 answer_of_contents None = Absent
 answer_of_contents (Some bytes) = if nat_lt most_bytes (length bytes) then TooLong else Found bytes

@@ -4,11 +4,11 @@ use Rattle.std.specs.Prelude.{◌==◌, ◌||◌}
 use Rattle.std.proofs.lemmas.Bool.{eqb-true}
 use Rattle.std.proofs.lemmas.List.{length-take, take-append-drop}
 use Rattle.ms_pool.specs.declared.cursor.Short as cursor
-use Rattle.ms_pool.specs.declared.pool.PoolFault.{PoolFault}
 use Rattle.ms_pool.specs.Places.{Place, number_at, number_bytes, run_at}
 use Rattle.ms_pool.specs.Numbers.{IsBytes, IsBytes-drop, IsRead, IsWidth, number_is_read, run_is_read, width1, width2, width4}
+use Rattle.ms_pool.specs.Exact.{ok_is, then_ok}
 use Rattle.ms_pool.specs.Pools.{Entry, Utf8, Word, Wide, One, Two, Handle, IsEntry, is_one_tag, is_two_tag, is_wide_tag, is_word_tag, spelled_entry, tag_of, u1, u2, u4}
-use Rattle.ms_pool.specs.PoolReading.{◌>>=◌, of_short, u1_at, u2_at, u4_at, bytes_at, text_at, word_at, wide_at, one_at, two_at, handle_at, behind_tag, entry_at}
+use Rattle.ms_pool.specs.PoolReading.{of_short, u1_at, u2_at, u4_at, bytes_at, text_at, word_at, wide_at, one_at, two_at, handle_at, behind_tag, entry_at}
 
 -- from one place to the other stand these bytes
 pub record Takes (place : Place) (text : List ℕ) (after : Place) : Type 0 where
@@ -31,14 +31,6 @@ takes_both a b c s t p q = record {
   moved = omega (arith, p.moved, q.moved, length-append s t);
   fits = q.fits;
 }
-
--- what was read first and what was read behind it
-pub then_ok : {A B P : Type 0} (read : Result A PoolFault) (next : A → Result B PoolFault) (y : B) → (read >>= next) ≡ Ok y → ((x : A) → read ≡ Ok x → next x ≡ Ok y → P) → P
-then_ok (Ok x) next y found use_both = use_both x refl found
-then_ok (Err fault) next y found use_both = absurd cc
-
-pub ok_is : {A : Type 0} (x y : A) → ◌≡◌ {A = Result A PoolFault} (Ok x) (Ok y) → x ≡ y
-ok_is x y e = cc
 
 unshort : {X : Type 0} (read : Result X cursor.Short) (x : X) → of_short read ≡ Ok x → read ≡ Ok x
 unshort (Ok y) x found = cc

@@ -5,7 +5,7 @@ use Rattle.std.specs.Int.{cast_signed, w32}
 use Rattle.std.specs.List.{AllByRecursion, list_all}
 use Rattle.std.proofs.lemmas.Bool.{eqb-true}
 use Rattle.ms_pool.specs.Places.{Place}
-use Rattle.ms_pool.specs.Pools.{Entry, Utf8, Word, Wide, One, Two, Handle, IsEntry, IsPool, Placed, numbered, first_unlinked, has_tag, has_tag_of, is_linked, is_one_tag, is_two_tag, is_unlinked, is_wide_tag, is_word_tag, placed, placed_at, slots_of, spelled_entry, tag_of, width}
+use Rattle.ms_pool.specs.Pools.{Entry, Utf8, Word, Wide, One, Two, Handle, IsEntry, IsPool, IsPoolOf, Placed, numbered, first_unlinked, has_tag, has_tag_of, is_linked, is_one_tag, is_two_tag, is_unlinked, is_wide_tag, is_word_tag, placed, placed_at, slots_of, spelled_entry, tag_of, width}
 use Rattle.ms_pool.specs.ByNumber.{class_name, entry_of, integer, is_member, is_member_tag, member, int_held, member_held, referred, text_held, string_text, text_named, utf8}
 use Rattle.ms_pool.proofs.Again.{at_tag, or_cases}
 use Rattle.ms_pool.proofs.Lists.{which}
@@ -270,3 +270,17 @@ member_where slots sound i =
         let names = and_both (has_tag slots first 7) (has_tag slots second 12 && true) (both tag first second same linked) in
         referred_there slots sound tag first second names.0 (and_both (has_tag slots second 12) true names.1).0)
     by_entry (Handle kind index) fits linked = refl
+
+-- WHAT A POOL'S GETTERS RETURN
+
+pub of_pool : (slots : List (Option Placed)) → (place : Place) × (after : Place) × IsPoolOf place slots after → IsSound slots
+of_pool slots pool = subst IsSound (sym pool.2.slots_are) (pool_is_sound pool.0 pool.1 pool.2.entries pool.2.is)
+
+-- what was returned is there where what it stands for is
+pub returned : {X Y : Type 0} (seen : X → Y) (result : Option X) (value : Option Y) (has : Bool) → option_map seen result ≡ value → is_some value ≡ has → is_some result ≡ has
+returned seen None value has is there = ap is_some is ∙ there
+returned seen (Some x) value has is there = ap is_some is ∙ there
+
+pub option_same : {X : Type 0} (found : Option X) → option_map (λ (x : X). x) found ≡ found
+option_same None = refl
+option_same (Some x) = refl

@@ -6,9 +6,10 @@ use Rattle.std.proofs.lemmas.Bool.{eqb-true}
 use Rattle.ms_pool.specs.declared.pool.PoolFault.{PoolFault}
 use Rattle.ms_pool.specs.Places.{Place}
 use Rattle.ms_pool.specs.Numbers.{IsBytes}
+use Rattle.ms_pool.specs.Exact.{ok_is, then_err, then_ok}
 use Rattle.ms_pool.specs.Pools.{Entry, IsEntry, fault_of_entry, is_wide_tag, spelled_entry, tag_of, width, width_of}
 use Rattle.ms_pool.specs.PoolReading.{◌>>=◌, Read, entry_at, entries_at}
-use Rattle.ms_pool.proofs.Entries.{Takes, entry_found, ok_is, takes_both, then_ok}
+use Rattle.ms_pool.proofs.Entries.{Takes, entry_found, takes_both}
 use Rattle.ms_pool.proofs.Faults.{entry_fault, fault_in}
 use Rattle.ms_pool.proofs.Again.{Reaches, entry_reaches}
 
@@ -141,14 +142,6 @@ pub record Breaks (left : ℕ) (place : Place) (fault : PoolFault) : Type 0 wher
   pub sound : AllByRecursion IsEntry before
   pub more : width before < left
   pub fault_is : fault_of_entry (left - width before) at ≡ Some fault
-
-pub err_is : {A : Type 0} (x y : PoolFault) → ◌≡◌ {A = Result A PoolFault} (Err x) (Err y) → x ≡ y
-err_is x y e = cc
-
--- what was read first failed, or what was read behind it did
-pub then_err : {A B P : Type 0} (read : Result A PoolFault) (next : A → Result B PoolFault) (fault : PoolFault) → (read >>= next) ≡ Err fault → (read ≡ Err fault → P) → ((x : A) → read ≡ Ok x → next x ≡ Err fault → P) → P
-then_err (Ok x) next fault found use_first use_both = use_both x refl found
-then_err {B = B} (Err other) next fault found use_first use_both = use_first (ap (λ (f : PoolFault). Err f) (err_is {A = B} other fault found))
 
 pub err_of_fault : {X : Type 0} (read : Result X PoolFault) (fault : PoolFault) → fault_in read ≡ Some fault → read ≡ Err fault
 err_of_fault (Ok x) fault is = absurd cc

@@ -1,20 +1,20 @@
 -- What is read as a pool is the pool that the bytes are, and where they are none the fault is the first.
-use Rattle.std.proofs.Common.{◌≡◌, ℕ, zero, suc, ◌+◌, ◌-◌, ◌<◌, ◌≤◌, ◌⊎◌, Bool, true, false, cond, ltb, List, ◌++◌, length, Option, Some, None, Ok, Err, refl, sym, ap, subst, ◌∙◌, append_assoc, arith, inl, inr, All}
+use Rattle.std.proofs.Common.{◌≡◌, ℕ, zero, suc, ◌+◌, ◌-◌, ◌<◌, ◌≤◌, ◌⊎◌, Bool, true, false, cond, ltb, List, ◌++◌, length, Option, Some, None, Ok, Err, refl, sym, ap, subst, ◌∙◌, append_assoc, arith, inl, inr}
 use Rattle.std.specs.Prelude.{◌==◌}
 use Rattle.std.specs.List.{flat_map}
-use Rattle.std.proofs.lemmas.Bool.{cases_lt, eqb-true, ltb-true, lt-ltb, ltb-false, le-ltb}
-use Rattle.std.proofs.lemmas.List.{get_or_past}
+use Rattle.std.proofs.lemmas.Bool.{eqb-true, ltb-true, lt-ltb, ltb-false, le-ltb}
 use Rattle.byteorder.specs.Endian.{big_number}
 use Rattle.byteorder.specs.Numbers.{length-bytes_high_first}
 use Rattle.ms_pool.specs.declared.pool.PoolFault.{PoolFault}
 use Rattle.ms_pool.specs.declared.pool.PoolFault.TheVariants.{Short, Pool, Index}
 use Rattle.ms_pool.specs.Places.{Place, behind}
 use Rattle.ms_pool.specs.Numbers.{IsBytes, width2}
+use Rattle.ms_pool.specs.Exact.{err_is, ok_is, then_err, then_ok}
 use Rattle.ms_pool.specs.Pools.{Entry, HasFirstFault, HasPool, IsFirstFault, IsPool, Placed, fault_of_entry, numbered, spelled_entry, spelled_pool, u2, unlinked, width}
 use Rattle.ms_pool.specs.PoolReading.{Read, entries_at, linked, of_short, pool_at, u2_at}
-use Rattle.ms_pool.proofs.Entries.{Takes, number_takes, ok_is, takes_both, then_ok}
+use Rattle.ms_pool.proofs.Entries.{Takes, number_takes, takes_both}
 use Rattle.ms_pool.proofs.Again.{number_reaches}
-use Rattle.ms_pool.proofs.Lists.{breaks_again, either_err, either_read, entries_break, entries_found, entries_reach, err_is, place_is, then_err, which}
+use Rattle.ms_pool.proofs.Lists.{breaks_again, either_err, either_read, entries_break, entries_found, entries_reach, place_is, which}
 
 -- the links hold
 linked_ok : (entries : List Entry × Place) (first : Option Placed) (y : List Entry × Place) → linked entries first ≡ Ok y → (first ≡ None) × (entries ≡ y)
@@ -160,13 +160,6 @@ pool_breaks_again place fault fits (inr (inr (inr b))) =
     let all = entries_reach (width b.entries) b.entries start.0 b.rest b.spelled.fit refl start.1 in
     let less : width b.entries + 1 - 1 ≡ width b.entries = omega arith in
     rw (start.2, start.3, less, all.found, b.first, b.fault_is) refl
-
-pub bytes_from_all : (bytes : List ℕ) → All (λ byte. byte < 256) bytes → IsBytes bytes
-bytes_from_all bytes all i =
-    elim (cases_lt i (length bytes)) [
-      | inl lt ↦ all i 0 lt
-      | inr le ↦ rw (get_or_past bytes i 0 le) (omega arith)
-    ]
 
 -- the bytes determine the pool
 pub one_pool : (place after after' : Place) (entries entries' : List Entry) → IsBytes place.left → IsPool place entries after → IsPool place entries' after' → (entries ≡ entries') × (after ≡ after')

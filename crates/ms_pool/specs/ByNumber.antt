@@ -7,14 +7,17 @@ use Rattle.ms_pool.specs.Places.{place_in}
 use Rattle.ms_pool.specs.Pools.{Entry, Utf8, Word, One, Two, Placed, has_tag, placed_at, tag_of}
 use Rattle.ms_pool.specs.PoolReading.{Read, entry_at}
 
+-- the entry of this number
 abbrev pub entry_of : List (Option Placed) → ℕ → Option Entry
 entry_of slots i = option_map (λ placed. placed.entry) (placed_at slots i)
 
+-- the tag of the entry of this number
 abbrev pub tag_numbered : List (Option Placed) → ℕ → Option ℕ
 tag_numbered slots i = option_map tag_of (entry_of slots i)
 
 -- TEXTS
 
+-- the text that an entry holds, where it is a Utf8
 abbrev pub text_held : Entry → Option (List ℕ)
 text_held (Utf8 text) = Some text
 text_held entry = None
@@ -38,6 +41,7 @@ string_text slots i = option_and_then (text_named 8 slots) (entry_of slots i)
 
 -- INTS
 
+-- the int that an entry holds, where it is an Integer
 abbrev pub int_held : Entry → Option ℤ
 int_held (Word tag number) = if tag == 3 then Some (cast_signed w32 number) else None
 int_held entry = None
@@ -97,6 +101,7 @@ is_member slots i = has_tag slots i 9 || (has_tag slots i 10 || has_tag slots i 
 
 -- THE PLACES OF ENTRIES
 
+-- the place of a tag, and 0 where there is no entry
 abbrev pub place_of : Option Placed → ℕ
 place_of None = 0
 place_of (Some placed) = placed.at

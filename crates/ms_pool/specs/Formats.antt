@@ -5,6 +5,7 @@ use Rattle.std.specs.Prelude.{◌≡◌, ◌⊎◌, ℕ, zero, suc, ◌+◌, ◌
 use Rattle.ms_pool.specs.declared.cursor.Short.{Short}
 use Rattle.ms_pool.specs.Places.{Place, behind, first_of, number_at, number_bytes, part_at, run_at}
 
+-- a format of what X are, with faults
 pub record Format (Fault X : Type 0) : Type 1 where
   -- from one place to the other the bytes spell this
   pub Spells : Place → X → Place → Type 0
@@ -30,10 +31,12 @@ pub record IsNumber (n : ℕ) (place : Place) (number : ℕ) (after : Place) : T
 abbrev pub IsShort : {Fault : Type 0} → (ℕ → Fault) → ℕ → Place → Fault → Type 0
 IsShort short n place fault = (length place.left < n) × (fault ≡ short place.at)
 
+-- what was read, or the fault of a part that does not fit
 abbrev pub or_short : {Fault X : Type 0} → (ℕ → Fault) → Result X Short → Result X Fault
 or_short short (Ok x) = Ok x
 or_short short (Err none) = Err (short none.at)
 
+-- the format of a number of n bytes
 abbrev pub number : {Fault : Type 0} → (ℕ → Fault) → ℕ → Format Fault ℕ
 number short n = record {
   Spells = IsNumber n;
@@ -47,6 +50,7 @@ pub record IsRun (n : ℕ) (place : Place) (bytes : List ℕ) (after : Place) : 
   pub bytes_are : place.left ≡ bytes ++ after.left
   pub moved : after.at ≡ place.at + n
 
+-- the format of a run of n bytes
 abbrev pub run : {Fault : Type 0} → (ℕ → Fault) → ℕ → Format Fault (List ℕ)
 run short n = record {
   Spells = IsRun n;
@@ -72,6 +76,7 @@ here = record {
   read = λ place. Ok (place.at, place);
 }
 
+-- what was found, read from no bytes
 abbrev pub found_or : {Fault X : Type 0} → Option X → Fault → Place → Result (X × Place) Fault
 found_or (Some x) fault place = Ok (x, place)
 found_or None fault place = Err fault
@@ -92,6 +97,7 @@ check test fault = record {
   read = λ place. if test then Ok (tt, place) else Err fault;
 }
 
+-- nothing, where no byte is left
 abbrev pub if_none_left : {Fault : Type 0} → (ℕ → Fault) → ℕ → List ℕ → Place → Result (Unit {0} × Place) Fault
 if_none_left trailing at [] place = Ok (tt, place)
 if_none_left trailing at (byte ∷ bytes) place = Err (trailing at)

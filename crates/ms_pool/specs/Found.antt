@@ -40,6 +40,7 @@ pub record ArePlaces (start : Place) (places : List ℕ) (after : Place) (read :
   pub found : read ≡ Ok (entries, after)
   pub places_are : places ≡ 0 ∷ places_of (placed start.at entries)
 
+-- what a reader of entries returned is their places, or memory ran out, or it is the fault that is read
 abbrev pub Lists : {X : Type 0} → (X → List ℕ) → Place → Result X PoolFault → Place → Read (List Entry) → Type 0
 Lists seen start (Ok places) after read = ArePlaces start (seen places) after read
 Lists seen start (Err fault) after read = Fails fault read

@@ -5,6 +5,7 @@ use Rattle.ms_pool.specs.declared.cursor.Short as cursor
 use Rattle.ms_pool.specs.declared.pool.PoolFault.{PoolFault}
 use Rattle.ms_pool.specs.declared.pool.PoolFault.TheVariants.{Short, Pool, Index}
 use Rattle.ms_pool.specs.Places.{Place, number_at, run_at}
+use Rattle.ms_pool.specs.Formats.{and_then, or_short}
 use Rattle.ms_pool.specs.Pools.{Entry, Utf8, Word, Wide, One, Two, Handle, is_word_tag, is_wide_tag, Placed, is_one_tag, is_two_tag, numbered, tag_of, unlinked}
 
 -- a read of a pool
@@ -14,14 +15,13 @@ Read X = Result (X × Place) PoolFault
 infixl 10 ◌>>=◌
 -- a read, and what is read after it
 abbrev pub ◌>>=◌ : {A B : Type 0} → Result A PoolFault → (A → Result B PoolFault) → Result B PoolFault
-(Ok x) >>= next = next x
-(Err fault) >>= next = Err fault
+read >>= next = and_then read next
 
 -- a read that doesn't fit is a fault of the pool
 abbrev pub of_short : {X : Type 0} → Result X cursor.Short → Result X PoolFault
-of_short (Ok x) = Ok x
-of_short (Err short) = Err (Short short.at)
+of_short read = or_short Short read
 
+-- a number of one byte, of two, of four, and a run of n bytes
 abbrev pub u1_at : Place → Read ℕ
 u1_at place = of_short (number_at 1 place)
 
@@ -34,33 +34,39 @@ u4_at place = of_short (number_at 4 place)
 abbrev pub bytes_at : ℕ → Place → Read (List ℕ)
 bytes_at n place = of_short (run_at n place)
 
+-- behind the tag, a Utf8
 unfoldable pub text_at : Place → Read Entry
 text_at place = do
   size ← u2_at place
   text ← bytes_at size.0 size.1
   Ok (Utf8 text.0, text.1)
 
+-- an Integer or Float
 unfoldable pub word_at : ℕ → Place → Read Entry
 word_at tag place = do
   number ← u4_at place
   Ok (Word tag number.0, number.1)
 
+-- a Long or Double
 unfoldable pub wide_at : ℕ → Place → Read Entry
 wide_at tag place = do
   bytes ← bytes_at 8 place
   Ok (Wide tag bytes.0, bytes.1)
 
+-- a Class, String or MethodType
 unfoldable pub one_at : ℕ → Place → Read Entry
 one_at tag place = do
   index ← u2_at place
   Ok (One tag index.0, index.1)
 
+-- a Fieldref, Methodref, InterfaceMethodref, NameAndType or InvokeDynamic
 unfoldable pub two_at : ℕ → Place → Read Entry
 two_at tag place = do
   first ← u2_at place
   second ← u2_at first.1
   Ok (Two tag first.0 second.0, second.1)
 
+-- a MethodHandle
 unfoldable pub handle_at : Place → Read Entry
 handle_at place = do
   kind ← u1_at place

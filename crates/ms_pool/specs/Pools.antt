@@ -27,18 +27,23 @@ pub data Entry : Type 0 where
 
 -- THE TAGS (table 4.4-A)
 
+-- Integer and Float
 abbrev pub is_word_tag : ℕ → Bool
 is_word_tag tag = tag == 3 || tag == 4
 
+-- Long and Double
 abbrev pub is_wide_tag : ℕ → Bool
 is_wide_tag tag = tag == 5 || tag == 6
 
+-- Class, String and MethodType
 abbrev pub is_one_tag : ℕ → Bool
 is_one_tag tag = tag == 7 || (tag == 8 || tag == 16)
 
+-- Fieldref, Methodref, InterfaceMethodref, NameAndType and InvokeDynamic
 abbrev pub is_two_tag : ℕ → Bool
 is_two_tag tag = tag == 9 || (tag == 10 || (tag == 11 || (tag == 12 || tag == 18)))
 
+-- the tag of an entry
 abbrev pub tag_of : Entry → ℕ
 tag_of (Utf8 text) = 1
 tag_of (Word tag number) = tag
@@ -58,6 +63,7 @@ IsEntry (Handle kind index) = (kind < 2 ^ 8) × (index < 2 ^ 16)
 
 -- HOW THEY ARE SPELLED
 
+-- a number of one byte, of two, of four
 abbrev pub u1 : ℕ → List ℕ
 u1 n = number_bytes 1 n
 
@@ -67,6 +73,7 @@ u2 n = number_bytes 2 n
 abbrev pub u4 : ℕ → List ℕ
 u4 n = number_bytes 4 n
 
+-- an entry: its tag, and what it holds
 abbrev pub spelled_entry : Entry → List ℕ
 spelled_entry (Utf8 text) = u1 1 ++ u2 (length text) ++ text
 spelled_entry (Word tag number) = u1 tag ++ u4 number
@@ -79,6 +86,7 @@ spelled_entry (Handle kind index) = u1 15 ++ u1 kind ++ u2 index
 abbrev pub width_of : Entry → ℕ
 width_of entry = if is_wide_tag (tag_of entry) then 2 else 1
 
+-- how many numbers entries take
 abbrev pub width : List Entry → ℕ
 width [] = 0
 width (entry ∷ entries) = width_of entry + width entries
@@ -114,6 +122,7 @@ numbered at entries = None ∷ placed (at + 2) entries
 abbrev pub placed_at : List (Option Placed) → ℕ → Option Placed
 placed_at slots i = option_and_then (λ slot. slot) (slice_get slots i)
 
+-- whether there is an entry, and it has this tag
 abbrev pub has_tag_of : ℕ → Option Placed → Bool
 has_tag_of tag None = false
 has_tag_of tag (Some placed) = tag_of placed.entry == tag
@@ -138,6 +147,7 @@ wanted (Handle kind index) = []
 abbrev pub is_linked : List (Option Placed) → Entry → Bool
 is_linked slots entry = list_all (λ reference. has_tag slots reference.0 reference.1) (wanted entry)
 
+-- whether there is an entry that names a number without the wanted tag
 abbrev pub is_unlinked : List (Option Placed) → Option Placed → Bool
 is_unlinked slots None = false
 is_unlinked slots (Some placed) = not (is_linked slots placed.entry)
@@ -147,6 +157,7 @@ abbrev pub first_unlinked : List (Option Placed) → List (Option Placed) → Op
 first_unlinked all [] = None
 first_unlinked all (slot ∷ slots) = if is_unlinked all slot then slot else first_unlinked all slots
 
+-- the first of all
 abbrev pub unlinked : List (Option Placed) → Option Placed
 unlinked slots = first_unlinked slots slots
 

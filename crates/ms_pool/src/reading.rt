@@ -24,18 +24,20 @@ pub struct Pool<'a> {
 impl<'a> Model for Pool<'a> {
     ghost use Rattle.std.specs.Prelude.{◌≡◌, List, Option};
     ghost use Rattle.ms_pool.specs.ByNumber.{entries_in, places_of};
-    ghost use Rattle.ms_pool.specs.Pools.{Placed};
+    ghost use Rattle.ms_pool.specs.Pools.{IsPoolOf, Placed};
+    ghost use Rattle.ms_pool.specs.Places.{Place};
 
     ghost Value = { List (Option Placed) };
 
     ghost view = { λ pool. entries_in pool.bytes.now pool.index };
 
-    ghost invariant = { λ pool. places_of (entries_in pool.bytes.now pool.index) ≡ pool.index };
+    ghost invariant = { λ pool. (places_of (entries_in pool.bytes.now pool.index) ≡ pool.index) × ((place : Place) × (after : Place) × IsPoolOf place (entries_in pool.bytes.now pool.index) after) };
 }
 
 impl<'a> Pool<'a> {
-    ghost use Rattle.std.specs.Prelude.{option_map};
-    ghost use Rattle.ms_pool.specs.ByNumber.{class_name, integer, member, places_of, string_text, tag_numbered, utf8};
+    ghost use Rattle.std.specs.Prelude.{is_some, option_map};
+    ghost use Rattle.ms_pool.specs.Pools.{has_tag};
+    ghost use Rattle.ms_pool.specs.ByNumber.{class_name, integer, is_member, member, places_of, string_text, tag_numbered, utf8};
     ghost use Rattle.ms_pool.specs.Found.{member_view};
 
     /// The pool's count, constant_pool_count: one more than the greatest number (section 4.1).
@@ -54,35 +56,40 @@ impl<'a> Pool<'a> {
 
     /// The bytes of the Utf8 of this number, lent, where one has it.
     pub fn utf8(&self, i: u16) -> Option<&'a [u8]>
-        ensures { option_map (λ text. text.now) result ≡ utf8 self.now i }
+        ensures value { option_map (λ text. text.now) result ≡ utf8 self.now i }
+        ensures there { is_some result ≡ has_tag self.now i 1 }
     {
         self.index.utf8(self.bytes, i)
     }
 
     /// The name of the Class of this number, lent, where one has it.
     pub fn class_name(&self, i: u16) -> Option<&'a [u8]>
-        ensures { option_map (λ text. text.now) result ≡ class_name self.now i }
+        ensures value { option_map (λ text. text.now) result ≡ class_name self.now i }
+        ensures there { is_some result ≡ has_tag self.now i 7 }
     {
         self.index.class_name(self.bytes, i)
     }
 
     /// The text of the String of this number, lent, where one has it.
     pub fn text(&self, i: u16) -> Option<&'a [u8]>
-        ensures { option_map (λ text. text.now) result ≡ string_text self.now i }
+        ensures value { option_map (λ text. text.now) result ≡ string_text self.now i }
+        ensures there { is_some result ≡ has_tag self.now i 8 }
     {
         self.index.text(self.bytes, i)
     }
 
     /// The int of the Integer of this number, where one has it.
     pub fn integer(&self, i: u16) -> Option<i32>
-        ensures { result ≡ integer self.now i }
+        ensures value { result ≡ integer self.now i }
+        ensures there { is_some result ≡ has_tag self.now i 3 }
     {
         self.index.integer(self.bytes, i)
     }
 
     /// The field or method of the entry of this number, its names lent, where it refers to one.
     pub fn member(&self, i: u16) -> Option<Member<'a>>
-        ensures { option_map member_view result ≡ member self.now i }
+        ensures value { option_map member_view result ≡ member self.now i }
+        ensures there { is_some result ≡ is_member self.now i }
     {
         self.index.member(self.bytes, i)
     }

@@ -23,12 +23,15 @@ line_of string Undecided = codes "undecided " ++ string_text string ++ line_end
 line_of string (Path input end) =
     codes "path " ++ string_text string ++ codes " input " ++ input_text input.words ++ codes " " ++ end_text end ++ line_end
 
+-- the line of a row
 abbrev pub row_text : PathRow → List ℕ
 row_text row = line_of row.choices row.outcome
 
+-- the lines of rows
 abbrev pub rows_text : List PathRow → List ℕ
 rows_text rows = flat_map row_text rows
 
+-- whether a row is that of a path
 abbrev pub is_path : Outcome → Bool
 is_path Undecided = false
 is_path (Path input end) = true

@@ -11,7 +11,7 @@ use Rattle.ms_machine.specs.Runs.{end_of}
 use Rattle.ms_jvm.specs.Ends.{path_end_of}
 use Rattle.ms_session.specs.Strings.{below, holds, proper_prefixes, with_string}
 use Rattle.ms_session.specs.Paths.{arms_after, arms_of_run, input_with, inputs_of, is_path, is_sat, least_of, report, row_of, row_of_least, row_with, tree, tree_from}
-use Rattle.ms_session.specs.Known.{Known, asks_for, explore, explore_next, first_needing, is_empty, is_unsettled, lacks_verdict, needs_settling, one_more, settled}
+use Rattle.ms_session.specs.Known.{Known, asks_for, explore, explore_from, first_needing, is_empty, is_unsettled, lacks_verdict, needs_settling, one_more, settled}
 use Rattle.ms_session.specs.Growing.{Node, node_of, run_of}
 use Rattle.ms_session.specs.Walking.{any_open, closed, is_open, row_at, row_of_run, rows_of, walk}
 use Rattle.ms_session.proofs.Lists.{filter_mapped, first_passes}
@@ -148,7 +148,7 @@ walk_is P depth (suc n) known front (p ∷ rest) is all =
         let next : walk n (closed known (node_of P depth p)) (map (node_of P depth) rest) ≡ explore P depth n (settled P known p) =
         ap (λ k. walk n k (map (node_of P depth) rest)) (closed_is P depth known p)
         ∙ less (settled P known p) (all_more P (settled P known p) p front (all_stay P known p front all) (is_settled P known p)) in
-        ap (one_more (asks_for P known p)) next ∙ sym (ap (explore_next P (explore P depth n) known) found)
+        ap (one_more (asks_for P known p)) next ∙ sym (ap (explore_from P (explore P depth n) known) found)
     by_test false e less again = again known (all_more P known p front all e)
 
 -- all of it

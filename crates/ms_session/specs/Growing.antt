@@ -56,6 +56,7 @@ abbrev pub choice_at : ℕ → Option Run → Option ℕ
 choice_at place None = None
 choice_at place (Some run) = slice_get run.path.choices place
 
+-- the node of a string with these runs
 abbrev pub node_with : List ℕ → Bool → List Run → Node
 node_with p inherited runs = record { string = p; least = first_of runs; inherited = inherited; path = any_ends (length p) runs }
 

@@ -10,9 +10,11 @@ pub record Known : Type 0 where
   pub verdicts : List (List ℕ)
   pub segments : List (List ℕ)
 
+-- nothing
 abbrev pub nothing_known : Known
 nothing_known = record { verdicts = []; segments = [] }
 
+-- whether a string is empty
 abbrev pub is_empty : List ℕ → Bool
 is_empty p = length p == 0
 
@@ -51,14 +53,16 @@ pub record Explored : Type 0 where
   pub settled : ℕ
   pub asks : ℕ
 
+-- one more string was settled, with so many asks
 abbrev pub one_more : ℕ → Explored → Explored
 one_more asks explored = record { known = explored.known; settled = explored.settled + 1; asks = explored.asks + asks }
 
-abbrev pub explore_next : Program → (Known → Explored) → Known → Option (List ℕ) → Explored
-explore_next P more known None = record { known = known; settled = 0; asks = 0 }
-explore_next P more known (Some p) = one_more (asks_for P known p) (more (settled P known p))
+-- settles this string, where there is one, and goes on
+abbrev pub explore_from : Program → (Known → Explored) → Known → Option (List ℕ) → Explored
+explore_from P more known None = record { known = known; settled = 0; asks = 0 }
+explore_from P more known (Some p) = one_more (asks_for P known p) (more (settled P known p))
 
 -- settles the first string that needs it, up to so many times
 unfoldable pub explore : Program → ℕ → ℕ → Known → Explored
 explore P depth zero known = record { known = known; settled = 0; asks = 0 }
-explore P depth (suc n) known = explore_next P (explore P depth n) known (first_needing P depth known)
+explore P depth (suc n) known = explore_from P (explore P depth n) known (first_needing P depth known)

@@ -10,6 +10,7 @@ pub record ShelfSide : Type 0 where
   pub files : Option (List File)
   pub counts : ShelfCounts
 
+-- a shelf by its parts
 abbrev pub shelf_side : Option (List File) → ShelfCounts → ShelfSide
 shelf_side files counts = record { files = files; counts = counts }
 
@@ -18,6 +19,7 @@ pub record SinkSide : Type 0 where
   pub taken : Option (List ℕ)
   pub faults : ℕ
 
+-- a sink by its parts
 abbrev pub sink_side : Option (List ℕ) → ℕ → SinkSide
 sink_side taken faults = record { taken = taken; faults = faults }
 

@@ -45,6 +45,7 @@ input_with P words = record { kinds = P.entry.kinds; words = words }
 abbrev pub takers : Program → List ℕ → List (List ℤ)
 takers P p = filter (λ words. same (string P (input_with P words) (length p)) p) (inputs_of P.entry.kinds)
 
+-- the first of a list
 abbrev pub first_of : {X : Type 0} → List X → Option X
 first_of [] = None
 first_of (x ∷ xs) = Some x
@@ -53,6 +54,7 @@ first_of (x ∷ xs) = Some x
 abbrev pub least_of : Program → List ℕ → Option (List ℤ)
 least_of P p = first_of (takers P p)
 
+-- whether some input takes the string
 abbrev pub is_sat : Program → List ℕ → Bool
 is_sat P p = is_some (least_of P p)
 
@@ -60,6 +62,7 @@ is_sat P p = is_some (least_of P p)
 abbrev pub parent : List ℕ → List ℕ
 parent p = take (length p - 1) p
 
+-- whether there is an input, and it takes the string
 abbrev pub takes_it : Program → List ℕ → Option (List ℤ) → Bool
 takes_it P p None = false
 takes_it P p (Some words) = same (string P (input_with P words) (length p)) p
@@ -70,10 +73,12 @@ is_inherited P p = takes_it P p (least_of P (parent p))
 
 -- THE TREE OF STRINGS
 
+-- how many arms the choice has that a segment comes to
 abbrev pub arms_in : {V : Type 0} → After V → ℕ
 arms_in (Choice test arms) = arms_of test
 arms_in (Over end) = 0
 
+-- the same for the run of an input, where there is one
 abbrev pub arms_of_run : Program → List ℕ → Option (List ℤ) → ℕ
 arms_of_run P p None = 0
 arms_of_run P p (Some words) = arms_in (segment_after P (input_with P words) p).after
@@ -98,10 +103,12 @@ tree P depth = tree_from P depth []
 abbrev pub is_path : Program → ℕ → List ℕ → Bool
 is_path P depth p = list_any (λ words. same (string P (input_with P words) depth) p) (inputs_of P.entry.kinds)
 
+-- the row of a string, an input and an end
 abbrev pub row_with : Program → List ℕ → List ℤ → Option PathEnd → Option PathRow
 row_with P p words None = None
 row_with P p words (Some end) = Some (record { choices = p; outcome = Path (input_with P words) end })
 
+-- the row of a string and its least input
 abbrev pub row_of_least : Program → ℕ → List ℕ → Option (List ℤ) → Option PathRow
 row_of_least P depth p None = None
 row_of_least P depth p (Some words) = row_with P p words (path_end_of (end_of P (input_with P words) depth))

@@ -32,21 +32,26 @@ abbrev pub class_in : Option (Vec ℕ) → Option Method
 class_in None = None
 class_in (Some bytes) = thin_method bytes.items
 
+-- the class of a file, as a list
 abbrev pub classes_in : Option (Vec ℕ) → List Method
 classes_in file = listed (class_in file)
 
+-- the entry: the method of the file, where it is set
 abbrev pub entry_in : Bool → Option (Vec ℕ) → Option Method
 entry_in false file = None
 entry_in true file = class_in file
 
+-- the bytes are a thin file, where there are any
 abbrev pub IsFile : Option (Vec ℕ) → Type 0
 IsFile None = Unit {0}
 IsFile (Some bytes) = IsTrue (is_some (thin_method bytes.items))
 
+-- there is a method, and its parameters are booleans
 abbrev pub IsBoolean : Option Method → Type 0
 IsBoolean None = ⊥
 IsBoolean (Some method) = IsTrue (list_all is_boolean method.kinds)
 
+-- where the entry is set, it can be one
 abbrev pub IsEntry : Bool → Option (Vec ℕ) → Type 0
 IsEntry false file = Unit {0}
 IsEntry true file = IsBoolean (class_in file)
@@ -106,6 +111,7 @@ FetchCause stops.ShelfFault before now = Rose before.counts.faults now.counts.fa
 FetchCause stops.WriteFault before now = ⊥
 FetchCause stops.NoMemory before now = now.counts.faults ≡ before.counts.faults
 
+-- a fetch stopped the command
 pub record FetchStops (stop : Stop) (before now : ShelfSide) : Type 0 where
   pub cause : FetchCause stop before now
   pub passes : ShelfPasses before now

@@ -17,6 +17,7 @@ pub record State : Type 0 where
 abbrev pub first_depth : ℕ
 first_depth = 16
 
+-- the state of a new session
 abbrev pub new_state : State
 new_state = record { classes = []; entry = None; depth = first_depth; known = nothing_known }
 

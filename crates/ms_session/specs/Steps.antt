@@ -31,13 +31,9 @@ pub record Next : Type 0 where
   pub state : State
   pub asks : ℕ
 
--- a reply, where nothing changes
-abbrev pub reply_alone : State → Reply → Next
-reply_alone state reply = record { text = reply_text reply; state = state; asks = 0 }
-
--- a reply, and the state that the command led to
-abbrev pub replies_and : State → Reply → Next
-replies_and state reply = record { text = reply_text reply; state = state; asks = 0 }
+-- a reply, with the state then
+abbrev pub replied : State → Reply → Next
+replied state reply = record { text = reply_text reply; state = state; asks = 0 }
 
 -- ---- once FILE NAME DESC WORD..
 
@@ -77,17 +73,18 @@ once_reply file name desc words (shelves.Found bytes) = method_reply (thin_metho
 -- adds a class where none is present; a class of the same name is known, and a second class isn't built
 abbrev pub class_among : State → Method → List Method → Next
 class_among state class [] =
-    replies_and (record state { classes = class ∷ [] }) (replies.ClassAdded class.class (length state.known.verdicts) (length state.known.segments))
-class_among state class (present ∷ others) = reply_alone state (if bytes_eq present.class class.class then replies.Known class.class else replies.NotBuilt)
+    replied (record state { classes = class ∷ [] }) (replies.ClassAdded class.class (length state.known.verdicts) (length state.known.segments))
+class_among state class (present ∷ others) = replied state (if bytes_eq present.class class.class then replies.Known class.class else replies.NotBuilt)
 
+-- adds the class of a thin file
 abbrev pub class_read : State → Option Method → Next
-class_read state None = reply_alone state replies.NotBuilt
+class_read state None = replied state replies.NotBuilt
 class_read state (Some class) = class_among state class state.classes
 
 -- `class FILE`, by the shelf's answer to FILE
 abbrev pub class_next : State → List ℕ → Answer → Next
-class_next state file shelves.Absent = reply_alone state (replies.Absent file)
-class_next state file shelves.TooLong = reply_alone state replies.NotBuilt
+class_next state file shelves.Absent = replied state (replies.Absent file)
+class_next state file shelves.TooLong = replied state replies.NotBuilt
 class_next state file (shelves.Found bytes) = class_read state (thin_method bytes)
 
 -- ---- entry CLASS NAME DESC
@@ -100,12 +97,13 @@ is_entry method name desc = bytes_eq method.name name && bytes_eq method.descrip
 abbrev pub entry_set : State → Method → Next
 entry_set state method =
     if list_all is_boolean method.kinds
-    then replies_and (record state { entry = Some method; known = nothing_known }) (replies.EntrySet (entry_name method))
-    else reply_alone state replies.NotBuilt
+    then replied (record state { entry = Some method; known = nothing_known }) (replies.EntrySet (entry_name method))
+    else replied state replies.NotBuilt
 
+-- `entry CLASS NAME DESC`, by the class of that name
 abbrev pub entry_next : State → List ℕ → List ℕ → List ℕ → Option Method → Next
-entry_next state class name desc None = reply_alone state (replies.Unknown class)
-entry_next state class name desc (Some method) = if is_entry method name desc then entry_set state method else reply_alone state replies.EntryMissing
+entry_next state class name desc None = replied state (replies.Unknown class)
+entry_next state class name desc (Some method) = if is_entry method name desc then entry_set state method else replied state replies.EntryMissing
 
 -- ---- explore N
 
@@ -113,9 +111,11 @@ entry_next state class name desc (Some method) = if is_entry method name desc th
 abbrev pub is_unfinished : Program → ℕ → Known → Bool
 is_unfinished P depth known = is_some (first_needing P depth known)
 
+-- how far the exploration has come
 abbrev pub how_far : Program → ℕ → Known → List ℕ
 how_far P depth known = if is_unfinished P depth known then codes "unfinished" else codes "finished"
 
+-- the reply to an exploration, and the state then
 abbrev pub explored_next : State → Program → Explored → Next
 explored_next state P e = record {
   text = reply_text (replies.Explored e.settled e.asks (how_far P state.depth e.known));
@@ -123,23 +123,27 @@ explored_next state P e = record {
   asks = e.asks;
 }
 
+-- `explore N`, by the entry
 abbrev pub explore_next : State → ℕ → Option Method → Next
-explore_next state n None = reply_alone state replies.NoEntry
+explore_next state n None = replied state replies.NoEntry
 explore_next state n (Some method) = explored_next state (program_of method) (explore (program_of method) state.depth n state.known)
 
 -- ---- report
 
+-- the lines of a report, and its end
 abbrev pub reported : List PathRow → List ℕ
 reported rows = rows_text rows ++ reply_text (replies.Reported (totals_of rows).paths (totals_of rows).undecided)
 
+-- the report of a program, where no string needs settling
 abbrev pub report_of : State → Program → Next
 report_of state P =
     if is_unfinished P state.depth state.known
-    then reply_alone state replies.Unfinished
+    then replied state replies.Unfinished
     else record { text = reported (report P state.depth); state = state; asks = 0 }
 
+-- `report`, by the entry
 abbrev pub report_next : State → Option Method → Next
-report_next state None = reply_alone state replies.NoEntry
+report_next state None = replied state replies.NoEntry
 report_next state (Some method) = report_of state (program_of method)
 
 -- ---- ALL COMMANDS
@@ -149,15 +153,16 @@ abbrev pub with_answer : State → List Answer → (Answer → Next) → Next
 with_answer state [] go = record { text = []; state = state; asks = 0 }
 with_answer state (answer ∷ answers) go = go answer
 
+-- a command, by the answers to its names
 abbrev pub next : State → Command → List Answer → Next
 next state commands.Nothing answers = record { text = []; state = state; asks = 0 }
-next state (commands.Once file name desc words) answers = with_answer state answers (λ answer. reply_alone state (once_reply file name desc words answer))
+next state (commands.Once file name desc words) answers = with_answer state answers (λ answer. replied state (once_reply file name desc words answer))
 next state (commands.Class file) answers = with_answer state answers (class_next state file)
 next state (commands.Entry class name desc) answers = entry_next state class name desc (class_named state.classes class)
-next state (commands.Depth depth) answers = replies_and (record state { depth = depth }) (replies.DepthSet depth)
+next state (commands.Depth depth) answers = replied (record state { depth = depth }) (replies.DepthSet depth)
 next state (commands.Explore n) answers = explore_next state n state.entry
 next state commands.Report answers = report_next state state.entry
-next state commands.Quit answers = reply_alone state replies.Quitting
+next state commands.Quit answers = replied state replies.Quitting
 
 -- the names of files that a command asks the shelf for, in order
 abbrev pub names_in : Command → List (List ℕ)

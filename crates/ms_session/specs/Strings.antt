@@ -24,5 +24,6 @@ proper_prefixes (arm ∷ arms) = [] ∷ map (λ q. arm ∷ q) (proper_prefixes a
 abbrev pub holds : List (List ℕ) → List ℕ → Bool
 holds strings p = list_any (is_at (slice_cmp nat_cmp p)) strings
 
+-- a set of strings with one more
 abbrev pub with_string : List (List ℕ) → List ℕ → List (List ℕ)
 with_string strings p = insert_key (slice_cmp nat_cmp) strings p

@@ -127,7 +127,7 @@ impl Session {
     /// Sets the depth, 0 to 256.
     fn set_depth(&mut self, depth: u16) -> Reply
         requires { depth ≤ 256 }
-        ensures { Says (steps.replies_and (record self.old { depth = depth }) (Reply.DepthSet depth)) result self.new }
+        ensures { Says (steps.replied (record self.old { depth = depth }) (Reply.DepthSet depth)) result self.new }
     {
         self.depth = depth;
         Reply::DepthSet { depth }

@@ -26,6 +26,7 @@ constant_of (Param index kind) = None
 constant_of (Unary op a) = None
 constant_of (Binary op a b) = None
 
+-- whether a term is constant
 abbrev pub is_constant : Term → Bool
 is_constant (Constant word) = true
 is_constant (Param index kind) = false

@@ -3,6 +3,7 @@ use Rattle.std.specs.Prelude.{Bool, true, false, ◌&&◌, ◌==◌, if◌then�
 use Rattle.ms_words.specs.declared.item.Item.{Item}
 use Rattle.ms_words.specs.declared.item.Item.TheVariants.{Entry, At}
 
+-- whether two items are one
 abbrev pub same_item : Item → Item → Bool
 same_item Entry Entry = true
 same_item Entry (At class method offset) = false

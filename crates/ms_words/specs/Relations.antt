@@ -3,6 +3,7 @@ use Rattle.std.specs.Prelude.{ℤ, pos, negsuc, Bool, true, false, not, int_lt, 
 use Rattle.ms_words.specs.declared.operator.Rel.{Rel}
 use Rattle.ms_words.specs.declared.operator.Rel.TheVariants.{Eq, Ne, Lt, Ge, Gt, Le, Uge}
 
+-- whether two ints are equal
 abbrev pub int_eq : ℤ → ℤ → Bool
 int_eq (pos a) (pos b) = a == b
 int_eq (negsuc a) (negsuc b) = a == b

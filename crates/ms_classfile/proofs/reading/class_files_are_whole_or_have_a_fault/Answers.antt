@@ -1,5 +1,5 @@
 use Rattle.ms_classfile.proofs.Exact.{class_or_fault, no_fault, one_class, one_fault}
-use Rattle.ms_classfile.proofs.Files.{bytes_from_all}
+use Rattle.ms_pool.specs.Numbers.{bytes_from_all}
 use Rattle.ms_classfile.proofs.reading.class_files_are_whole_or_have_a_fault.Goals as goal
 
 pub returns-clause-either : goal.returns-clause-either

@@ -1,4 +1,5 @@
-use Rattle.ms_classfile.proofs.Files.{file_takes, file_reaches, bytes_from_all, one_method}
+use Rattle.ms_classfile.proofs.Files.{file_takes, file_reaches, one_method}
+use Rattle.ms_pool.specs.Numbers.{bytes_from_all}
 use Rattle.ms_classfile.proofs.thin.thin_files_are_read.Goals as goal
 
 pub returns-clause-read : goal.returns-clause-read

@@ -1,4 +1,5 @@
-use Rattle.ms_pool.proofs.Pools.{bytes_from_all, not_both, one_fault, one_pool, pool_or_fault}
+use Rattle.ms_pool.proofs.Pools.{not_both, one_fault, one_pool, pool_or_fault}
+use Rattle.ms_pool.specs.Numbers.{bytes_from_all}
 use Rattle.ms_pool.proofs.pool.pools_are_whole_or_have_a_fault.Goals as goal
 
 pub returns-clause-either : goal.returns-clause-either
