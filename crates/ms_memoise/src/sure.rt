@@ -1,6 +1,9 @@
-ghost use Rattle.std.specs.Prelude.{◌≡◌, ◌≤◌, ◌⊎◌, ◌++◌, [], length, IsTrue};
+ghost use Rattle.std.specs.Prelude.{◌≡◌, ◌≤◌, ◌⊎◌, ◌++◌, [], Some, length, IsTrue};
 ghost use Rattle.std.specs.Str.Lines.{lines};
+ghost use Rattle.ms_memoise.specs.Conversations.{Conversation, outside};
 ghost use Rattle.ms_memoise.specs.Events.{has_quit, replies};
+ghost use Rattle.ms_outside.specs.Memory.{sure_counts};
+ghost use Rattle.ms_session.specs.Outside.{shelf_side};
 
 use crate::program::memoise;
 use crate::status::Status;
@@ -16,6 +19,11 @@ pub fn memoise_sure(
     sink: &mut SureSink,
 ) -> Status
     requires { length source.old ≤ 4294967295 }
+    // As for any devices: what was read, done and written, and why it ended.
+    ensures conversation { Conversation 4294967295
+        (outside (Some source.old) 0 (shelf_side (Some shelf.old.files) (sure_counts shelf.old)) (Some sink.old) 0)
+        (outside (Some source.new) 0 (shelf_side (Some shelf.new.files) (sure_counts shelf.new)) (Some sink.new) 0)
+        result }
     ensures done { (result ≡ Status.Done) ⊎ (result ≡ Status.NoMemory) }
     // All of it was read, or a quit is among its lines; and the replies to its lines up to the first quit
     // were written.

@@ -1,5 +1,5 @@
 -- Sources, sinks and shelves in memory: what they hold, and how a call changes it.
-use Rattle.std.specs.Prelude.{ℕ, ◌+◌, ◌-◌, ◌^◌, ◌==◌, List, ◌++◌, Bool, if◌then◌else◌, min, length, drop}
+use Rattle.std.specs.Prelude.{ℕ, ◌+◌, ◌-◌, ◌^◌, ◌<◌, ◌==◌, List, ◌++◌, Bool, if◌then◌else◌, min, length, drop}
 use Rattle.std.specs.List.{list_any}
 use Rattle.ms_outside.specs.Counts.{ShelfCounts}
 use Rattle.ms_outside.specs.Shelves.{File, Answer, Absent, TooLong, Found}
@@ -69,7 +69,7 @@ shelf_after old result = record old { calls = raised old.calls; counts = counts_
 abbrev pub HasBytes : Answer → Type 0
 HasBytes Absent = ⊥
 HasBytes TooLong = ⊥
-HasBytes (Found bytes) = Unit {0}
+HasBytes (Found bytes) = 0 < length bytes
 
 -- a shelf in memory that never fails: its files, how often it had no file of a name, and how often one that is too long
 pub record SureShelfState : Type 0 where

@@ -1,4 +1,4 @@
-ghost use Rattle.std.specs.Prelude.{◌≡◌, ℕ, List, [], ◌<◌, ◌≤◌, Some, length, is_ok, IfOk, IsErr, IsTrue};
+ghost use Rattle.std.specs.Prelude.{◌≡◌, ℕ, List, [], ◌<◌, ◌≤◌, Some, length, is_ok, IfOk, IsErr, IsFalse, IsOk, IsTrue};
 ghost use Rattle.ms_outside.specs.Counts.{HasCause};
 ghost use Rattle.ms_outside.specs.Sinks.{WriteTakes};
 ghost use Rattle.ms_outside.specs.Memory.{SinkState, is_listed, raised, sink_after};
@@ -49,7 +49,7 @@ impl Sink for MemorySink {
     ghost faults = { λ sink. sink.faults };
 
     /// Takes the whole piece. It fails where its number is listed, and else only for want of memory,
-    /// and then takes nothing.
+    /// and then takes nothing; an empty piece wants none.
     fn write(&mut self, piece: &[u8]) -> Result<usize, Failed>
         ensures within { IfOk result (λ n. n ≤ length piece.now) }
         ensures progress { IfOk result (λ n. 0 < length piece.now → 0 < n) }
@@ -57,6 +57,7 @@ impl Sink for MemorySink {
         ensures cause { HasCause self.old.faults self.new.faults result }
         ensures listed { IsTrue (is_listed self.old.fails (raised self.old.calls)) → IsErr result }
         ensures whole { IfOk result (λ n. n ≡ length piece.now) }
+        ensures empty { length piece.now ≡ 0 → IsFalse (is_listed self.old.fails (raised self.old.calls)) → IsOk result }
         ensures after { self.new ≡ sink_after self.old piece.now (is_ok result) }
     {
         if self.calls.next() || self.bytes.extend_from_slice(piece).is_err() {

@@ -28,6 +28,9 @@ pub(crate) fn fetch_from(alloc: Global, files: &[Shelved], name: &[u8]) -> Fetch
     if bytes.len() > MOST_BYTES {
         return Fetch::TooLong;
     }
+    if bytes.is_empty() {
+        return Fetch::Bytes(Vec::new(alloc));
+    }
     match Vec::from_slice(alloc, bytes) {
         Ok(copied) => Fetch::Bytes(copied),
         Err(_) => Fetch::NoMemory,

@@ -1,5 +1,5 @@
 -- How a report ends: its totals, or what stopped it.
-use Rattle.std.specs.Prelude.{◌≡◌, ℕ, List, not}
+use Rattle.std.specs.Prelude.{◌≡◌, ◌≢◌, ℕ, List, [], not}
 use Rattle.std.specs.List.{count_by}
 use Rattle.ms_outside.specs.Counts.{Rose}
 use Rattle.ms_trie.specs.declared.row.PathRow.{PathRow}
@@ -19,3 +19,8 @@ totals_of rows = record {
 abbrev pub HasStopped : ReportStop → ℕ → ℕ → Type 0
 HasStopped WriteFault before now = Rose before now
 HasStopped NoMemory before now = now ≡ before
+
+-- a write failed only where there is a row to write
+abbrev pub HasRow : ReportStop → List PathRow → Type 0
+HasRow WriteFault rows = rows ≢ []
+HasRow NoMemory rows = Unit {0}

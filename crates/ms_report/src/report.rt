@@ -3,7 +3,7 @@ ghost use Rattle.std.specs.Io.KnownBytes.{Appends};
 ghost use Rattle.ms_outside.specs.Sinks.{TakesPart};
 ghost use Rattle.ms_report.specs.Rows as rows_spec;
 ghost use Rattle.ms_report.specs.Rows.{rows_text};
-ghost use Rattle.ms_report.specs.Stops.{HasStopped, totals_of};
+ghost use Rattle.ms_report.specs.Stops.{HasRow, HasStopped, totals_of};
 
 use crate::line::row_text;
 use ms_outside::{Sink, write_all};
@@ -55,6 +55,7 @@ pub fn write_report<K: Sink>(
     ensures steady { OnOk result (K.faults sink.new ≡ K.faults sink.old) }
     ensures cause { IfErr result (λ stop. HasStopped stop (K.faults sink.old) (K.faults sink.new)) }
     ensures grows { K.faults sink.old ≤ K.faults sink.new }
+    ensures row { IfErr result (λ stop. HasRow stop rows.now) }
 {
     let mut totals = Totals {
         paths: 0,

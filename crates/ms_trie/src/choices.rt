@@ -1,4 +1,4 @@
-ghost use Rattle.std.specs.Prelude.{◌≡◌, ◌∷◌, ◌++◌, ◌<◌, ◌≤◌, ◌==◌, [], length, IfOk, OnOk, OnErr};
+ghost use Rattle.std.specs.Prelude.{◌≡◌, ◌∷◌, ◌++◌, ◌<◌, ◌≤◌, ◌==◌, [], length, IfOk, IsOk, OnOk, OnErr};
 ghost use Rattle.std.proofs.Common.{rules};
 ghost use Rattle.std.specs.Cmp.{partial_order_from_own_ties};
 ghost use Rattle.std.specs.Cmp.Lexicographic.{pointwise, slice_cmp};
@@ -14,7 +14,7 @@ use std::marker::Model;
 /// How many arms of a string are kept without an allocation.
 const INLINE: usize = 16;
 
-/// The arms of the choices on a path, in order: at most 256, each from 0 to 65,535. Short strings take
+/// The arms of the choices on a path, in order: at most 256, each from 0 to 65,535. Up to 16 arms take
 /// no memory. Strings are ordered arm by arm, and one comes before those that it begins.
 #[derive(Debug, Drop)]
 pub struct ChoiceString {
@@ -22,13 +22,13 @@ pub struct ChoiceString {
 }
 
 impl Model for ChoiceString {
-    ghost use Rattle.std.specs.Prelude.{ℕ, ◌≤◌, List, length};
+    ghost use Rattle.std.specs.Prelude.{ℕ, ◌<◌, ◌≤◌, List, length};
 
     ghost Value = { List ℕ };
 
     ghost view = { λ string. string.arms.items };
 
-    ghost invariant = { λ string. length string.arms.items ≤ 256 };
+    ghost invariant = { λ string. (length string.arms.items ≤ 256) × (16 ≤ string.arms.capacity) };
 }
 
 impl ChoiceString {
@@ -41,11 +41,13 @@ impl ChoiceString {
         }
     }
 
-    /// Adds an arm at the end. It fails for want of memory alone, and then changes nothing.
+    /// Adds an arm at the end. It fails for want of memory alone, and then changes nothing; it takes none for the first
+    /// 16.
     pub fn push(&mut self, arm: u16) -> Result<(), NoMemory>
         requires { length self.old < 256 }
         ensures ok { OnOk result (self.new ≡ self.old ++ arm ∷ []) }
         ensures err { OnErr result (self.new ≡ self.old) }
+        ensures short { length self.old < 16 → IsOk result }
     {
         self.arms.push(arm)?;
         Ok(())
@@ -59,19 +61,22 @@ impl ChoiceString {
         self.arms.as_slice()
     }
 
-    /// The same string once more. It fails for want of memory alone.
+    /// The same string once more. It fails for want of memory alone, and takes none for up to 16 arms.
     pub fn copy(&self, alloc: Global) -> Result<ChoiceString, NoMemory>
-        ensures { IfOk result (λ string. string ≡ self.now) }
+        ensures same { IfOk result (λ string. string ≡ self.now) }
+        ensures short { length self.now ≤ 16 → IsOk result }
     {
         Ok(ChoiceString {
             arms: SmallVec::from_slice(alloc, self.arms())?,
         })
     }
 
-    /// The string followed by this arm. It fails for want of memory alone.
+    /// The string followed by this arm. It fails for want of memory alone, and takes none where 16 arms or fewer come
+    /// of it.
     pub fn with(&self, alloc: Global, arm: u16) -> Result<ChoiceString, NoMemory>
         requires { length self.now < 256 }
-        ensures { IfOk result (λ string. string ≡ self.now ++ arm ∷ []) }
+        ensures added { IfOk result (λ string. string ≡ self.now ++ arm ∷ []) }
+        ensures short { length self.now < 16 → IsOk result }
     {
         let mut string = self.copy(alloc)?;
         string.push(arm)?;

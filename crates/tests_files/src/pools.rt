@@ -165,7 +165,12 @@ fn every_entry_gives_what_it_holds(rt: HostRuntime) -> Result<(), Fail> {
             "member of {number}"
         );
     }
-    let index = pool.into_index();
+    Ok(())
+}
+
+#[test]
+fn an_index_gives_the_same(rt: HostRuntime) -> Result<(), Fail> {
+    let (index, _) = read(rt.alloc(), &EVERY)?;
     assert_eq!(rt; index.count(), 19);
     for (number, tag) in (0_u16..20).zip(&TAGS) {
         let (utf8, class_name, text) = texts_of(number);
@@ -190,6 +195,11 @@ fn every_entry_gives_what_it_holds(rt: HostRuntime) -> Result<(), Fail> {
             "member of {number}"
         );
     }
+    Ok(())
+}
+
+#[test]
+fn each_cut_of_a_pool_is_short(rt: HostRuntime) -> Result<(), Fail> {
     for (at, place) in CUT.iter().enumerate() {
         let fault = read(rt.alloc(), &EVERY[..at]).err();
         assert_eq!(rt; fault, Some(PoolFault::Short { at: *place }), "cut at {at}");
