@@ -13,7 +13,8 @@ use Rattle.ms_command.specs.declared.reply.Reply.TheVariants.{NoLine, NoCommand,
 use Rattle.ms_command.specs.Lines.{is_plain, tokens}
 use Rattle.ms_command.specs.Numerals.{numeral_value, number_values}
 
--- the command that these numbers make, where each is a word of 32 bits
+-- the command that these numbers make, where each is a word of 32 bits; no form fits where a token is no number, and else
+-- a number is out of range
 abbrev pub in_range : (List ℤ → Command) → Option (List ℤ) → Result Command Reply
 in_range make None = Err NoCommand
 in_range make (Some numbers) = if list_all (is_of I) numbers then Ok (make numbers) else Err Range
@@ -78,7 +79,8 @@ command_of_tokens (word ∷ arguments) =
 abbrev pub command_of : List ℕ → Result Command Reply
 command_of line = if is_plain line then command_of_tokens (tokens line) else Err NoLine
 
--- a refusal comes where the reply to the line is the one of its name; want of memory may come at any time
+-- `Line`, `Command` and `Range` come where the reply to the line is NoLine (1), NoCommand (2) and Range (13); want of
+-- memory may come for any line
 abbrev pub Refuses : CommandRefusal → Result Command Reply → Type 0
 Refuses refusals.Line found = found ≡ Err NoLine
 Refuses refusals.Command found = found ≡ Err NoCommand

@@ -8,7 +8,7 @@ use Rattle.ms_words.specs.declared.end.PathEnd.TheVariants.{Ended, Cut}
 use Rattle.ms_command.specs.declared.reply.Reply.{Reply}
 use Rattle.ms_command.specs.declared.reply.Reply.TheVariants.{Ran, ClassAdded, EntrySet, DepthSet, Explored, Reported, Unfinished, Quitting, NoLine, NoCommand, Absent, Known, Unknown, NoEntry, EntryMissing, Range, NotBuilt}
 
--- a hexadecimal digit, the letters small
+-- the hexadecimal digit of a number below 16, the letters small
 abbrev pub hex_digit : ℕ → ℕ
 hex_digit digit = if nat_lt digit 10 then 48 + digit else 87 + digit
 
@@ -16,7 +16,7 @@ hex_digit digit = if nat_lt digit 10 then 48 + digit else 87 + digit
 abbrev pub is_printed : ℕ → Bool
 is_printed byte = nat_le 0x21 byte && nat_le byte 0x7E && not (byte == 92)
 
--- a byte of a printed name: as it is, or as \x and two hexadecimal digits
+-- a byte of a printed name: as it is, or as \x and two small hexadecimal digits
 abbrev pub printed_byte : ℕ → List ℕ
 printed_byte byte = if is_printed byte then byte ∷ [] else 92 ∷ 120 ∷ hex_digit (byte / 16) ∷ hex_digit (byte % 16) ∷ []
 

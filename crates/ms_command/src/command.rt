@@ -85,7 +85,7 @@ impl From<NoMemory> for CommandRefusal {
 /// The command that a line is. The line stands without its line feed, and without the carriage
 /// return before that. It is refused as `Line` exactly where it has more than 4,096 bytes or one
 /// outside 0x20 to 0x7E; else as `Command` exactly where no form of a command fits; else as `Range`
-/// exactly where a number is outside its range.
+/// exactly where a number is outside its range. `NoMemory` may come for any line.
 pub fn read_command(alloc: Global, line: &[u8]) -> Result<Command, CommandRefusal>
     ensures command { MatchResult result (λ command. command_of line.now ≡ Ok command) (λ refusal. Refuses refusal (command_of line.now)) }
     ensures range { IfOk result IsInRange }

@@ -13,8 +13,8 @@ pub enum Reply {
     Ran {
         end: Name,
     },
-    /// `ok class CLASS verdicts v segments g`: the class of this name was added to the program, and these
-    /// are the numbers of verdicts and of segments that go with it, each from 0 to 4,294,967,295.
+    /// `ok class CLASS verdicts v segments g`: the class of this name was added to the program. These are the
+    /// numbers of the entry's strings whose verdict, and whose segment, is known then, each from 0 to 4,294,967,295.
     ClassAdded {
         class: Name,
         verdicts: u32,
@@ -25,7 +25,7 @@ pub enum Reply {
     EntrySet {
         entry: Name,
     },
-    /// `ok depth N`: paths are cut at this depth from now on.
+    /// `ok depth N`: paths are cut at this depth from now on, from 0 to 256.
     DepthSet {
         depth: u16,
     },
@@ -65,11 +65,12 @@ pub enum Reply {
     /// `refused 10 NoEntry`: no entry is set.
     NoEntry,
     /// `refused 11 EntryMissing`: the class has no method of this name and descriptor that can be an entry.
-    /// An initialiser can't.
+    /// One named `<clinit>` can't, whatever its descriptor.
     EntryMissing,
     /// `refused 13 Range`: a form of a command fits the line, and a number is outside its range.
     Range,
-    /// `refused 90 NotBuilt`: the file, the method or the words are beyond what is built so far.
+    /// `refused 90 NotBuilt`: the file, the method or the words are beyond what is built so far, or a class of another
+    /// name is present.
     NotBuilt,
 }
 

@@ -4,7 +4,8 @@ use Rattle.std.specs.declared.io.ErrorKind.TheVariants as kinds
 use Rattle.ms_outside.specs.declared.shelf.Fetch.{Fetch}
 use Rattle.ms_outside.specs.declared.shelf.Fetch.TheVariants as fetched
 
--- an open failed with this kind: no such file, a name that no file can have, no memory, or any other fault
+-- an open failed with this kind: no such file, a path through something that is no folder, a name that no file can have,
+-- no memory, or any other fault
 abbrev pub open_answer : ErrorKind → Fetch
 open_answer kinds.NotFound = fetched.Absent
 open_answer kinds.NotADirectory = fetched.Absent

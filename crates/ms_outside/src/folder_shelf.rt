@@ -88,7 +88,7 @@ fn fetch_opened<F: Read + Drop>(alloc: Global, opened: io::Result<F>) -> Fetch
 }
 
 /// What an open that failed answers. `InvalidInput` and `InvalidFilename` are names that no file can
-/// have, as one with a zero byte or one that is too long.
+/// have, as one with a zero byte or one that is too long; `NotADirectory` is a path through a file.
 fn refused_open(kind: ErrorKind) -> Fetch
     ensures { result ≡ open_answer kind }
 {

@@ -40,7 +40,7 @@ impl From<NoMemory> for ReportStop {
     }
 }
 
-/// Writes the rows to the sink, each by a line, and counts them. Where it stops before the end, the sink
+/// Writes the rows, at most 4,294,967,295, to the sink, each by a line, and counts them. Where it stops before the end, the sink
 /// has taken some first bytes of the report, perhaps none, and nothing else; its count of faults has
 /// risen exactly where a write failed.
 pub fn write_report<K: Sink>(

@@ -12,7 +12,7 @@ pub data Term : Type 0 where
   Unary : Un → Term → Term
   Binary : Bin → Term → Term → Term
 
--- the word of a term, where the parameters are these words
+-- the word of a term, where the parameters, counted from 0, are these words; one without a word counts as 0
 abbrev pub value : List ℤ → Term → ℤ
 value words (Constant word) = word
 value words (Param index kind) = unwrap_or (slice_get words index) (pos 0)

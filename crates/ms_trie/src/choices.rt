@@ -41,7 +41,7 @@ impl ChoiceString {
         }
     }
 
-    /// Adds an arm at the end. It fails for want of memory alone, and then changes nothing; it takes none for the first
+    /// Adds an arm at the end of a string of fewer than 256. It fails for want of memory alone, and then changes nothing; it takes none for the first
     /// 16.
     pub fn push(&mut self, arm: u16) -> Result<(), NoMemory>
         requires { length self.old < 256 }
@@ -71,7 +71,7 @@ impl ChoiceString {
         })
     }
 
-    /// The string followed by this arm. It fails for want of memory alone, and takes none where 16 arms or fewer come
+    /// The string, of fewer than 256 arms, followed by this arm. It fails for want of memory alone, and takes none where 16 arms or fewer come
     /// of it.
     pub fn with(&self, alloc: Global, arm: u16) -> Result<ChoiceString, NoMemory>
         requires { length self.now < 256 }

@@ -12,7 +12,7 @@ bits_of C = 16
 bits_of S = 16
 bits_of I = 32
 
--- whether a word is one of the kind: 0 or 1; a signed byte; a number of 16 bits; a signed number of 16 bits; one of 32 bits
+-- whether a word is one of the kind: 0 or 1; -128 to 127; 0 to 65,535; -32,768 to 32,767; -2^31 to 2^31 - 1
 abbrev pub is_of : Kind → ℤ → Bool
 is_of Z (pos n) = nat_lt n 2
 is_of Z (negsuc n) = false

@@ -10,7 +10,7 @@ int_eq (negsuc a) (negsuc b) = a == b
 int_eq (pos a) (negsuc b) = false
 int_eq (negsuc a) (pos b) = false
 
--- not below, as unsigned words: every negative word is above every other one
+-- not below, as unsigned words: every negative word is above every one that isn't
 abbrev pub unsigned_ge : ℤ → ℤ → Bool
 unsigned_ge (pos a) (pos b) = nat_le b a
 unsigned_ge (negsuc a) (pos b) = true

@@ -19,7 +19,7 @@ class_name IllegalState = codes "java/lang/IllegalStateException"
 class_name UnsupportedOperation = codes "java/lang/UnsupportedOperationException"
 class_name ArrayIndexOutOfBounds = codes "java/lang/ArrayIndexOutOfBoundsException"
 
--- the class above it in the tree
+-- the class above it in the tree; Throwable has none
 abbrev pub parent : Thrown → Option Thrown
 parent Throwable = None
 parent Exception = Some Throwable
@@ -39,11 +39,11 @@ abbrev pub every_thrown : List Thrown
 every_thrown = Throwable ∷ Exception ∷ Error ∷ RuntimeException ∷ Arithmetic ∷ IndexOutOfBounds ∷ NegativeArraySize
     ∷ NullPointer ∷ IllegalArgument ∷ IllegalState ∷ UnsupportedOperation ∷ ArrayIndexOutOfBounds ∷ []
 
--- the class of this name
+-- the class of this name, where one of them has it
 abbrev pub thrown_named : List ℕ → Option Thrown
 thrown_named name = find (λ thrown. bytes_eq (class_name thrown) name) every_thrown
 
--- the place of a class in their order
+-- the place of a class in their order, counted from 0
 abbrev pub number_of : Thrown → ℕ
 number_of Throwable = 0
 number_of Exception = 1
@@ -58,7 +58,7 @@ number_of IllegalState = 9
 number_of UnsupportedOperation = 10
 number_of ArrayIndexOutOfBounds = 11
 
--- whether the class or one above it is the other one, looking at most so many classes up
+-- whether the class or one above it is the other one, looking at no more than so many classes, itself included
 abbrev pub is_below : ℕ → Option Thrown → Thrown → Bool
 is_below n None other = false
 is_below zero (Some class) other = false

@@ -86,7 +86,7 @@ impl Input {
         &self.words[..self.count]
     }
 
-    /// The word of parameter `i`, counted from 0.
+    /// The word of parameter `i`, counted from 0 and below the number of parameters.
     pub fn get(&self, i: usize) -> i32
         requires { i < length self.now.kinds }
         ensures word { slice_get self.now.words i ≡ Some result }
@@ -95,7 +95,7 @@ impl Input {
         self.words()[i]
     }
 
-    /// Makes `word` the word of parameter `i`, counted from 0. It answers false, and changes nothing,
+    /// Makes `word` the word of parameter `i`, counted from 0 and below their number. It answers false, and changes nothing,
     /// exactly where the word is not one of the parameter's kind.
     pub fn set(&mut self, i: usize, word: i32) -> bool
         requires { i < length self.old.kinds }
