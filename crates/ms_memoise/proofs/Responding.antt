@@ -104,7 +104,7 @@ told_none None = tt
 told_none (Some files) = refl
 
 no_answers : (a : ShelfSide) → AreAnswers a a [] []
-no_answers a = record { each = refl; size = tt; causes = tt; told = told_none a.files }
+no_answers a = record { each = refl; asked = sym (append-nil a.asked); size = tt; causes = tt; told = told_none a.files }
 
 none_of : (line : List ℕ) (reply : Reply) (a : ShelfSide) → command_of line ≡ Err reply → IsAnswered a a (record { line = line; answers = [] })
 none_of line reply a is = record {

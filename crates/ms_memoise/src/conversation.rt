@@ -36,8 +36,8 @@ pub fn converse<S: Source, F: Shelf, K: Sink>(
     sink: &mut K,
 ) -> Status
     ensures conversation { Conversation limit
-        (outside (S.left source.old) (S.faults source.old) (shelf_side (F.files shelf.old) (F.counts shelf.old)) (K.taken sink.old) (K.faults sink.old))
-        (outside (S.left source.new) (S.faults source.new) (shelf_side (F.files shelf.new) (F.counts shelf.new)) (K.taken sink.new) (K.faults sink.new))
+        (outside (S.left source.old) (S.faults source.old) (shelf_side (F.files shelf.old) (F.counts shelf.old) (F.asked shelf.old)) (K.taken sink.old) (K.faults sink.old))
+        (outside (S.left source.new) (S.faults source.new) (shelf_side (F.files shelf.new) (F.counts shelf.new) (F.asked shelf.new)) (K.taken sink.new) (K.faults sink.new))
         result }
     ensures words { result ≢ Status.Usage }
 {
@@ -68,11 +68,11 @@ fn take_turn<S: Source, F: Shelf, K: Sink>(
     requires { 0 < most }
     ensures { MatchResult result
         (λ turn. Turned most line.old.items turn line.new.items session.old session.new
-        (outside (S.left source.old) (S.faults source.old) (shelf_side (F.files shelf.old) (F.counts shelf.old)) (K.taken sink.old) (K.faults sink.old))
-        (outside (S.left source.new) (S.faults source.new) (shelf_side (F.files shelf.new) (F.counts shelf.new)) (K.taken sink.new) (K.faults sink.new)))
+        (outside (S.left source.old) (S.faults source.old) (shelf_side (F.files shelf.old) (F.counts shelf.old) (F.asked shelf.old)) (K.taken sink.old) (K.faults sink.old))
+        (outside (S.left source.new) (S.faults source.new) (shelf_side (F.files shelf.new) (F.counts shelf.new) (F.asked shelf.new)) (K.taken sink.new) (K.faults sink.new)))
         (λ status. TurnBroke status most line.old.items session.old
-        (outside (S.left source.old) (S.faults source.old) (shelf_side (F.files shelf.old) (F.counts shelf.old)) (K.taken sink.old) (K.faults sink.old))
-        (outside (S.left source.new) (S.faults source.new) (shelf_side (F.files shelf.new) (F.counts shelf.new)) (K.taken sink.new) (K.faults sink.new))) }
+        (outside (S.left source.old) (S.faults source.old) (shelf_side (F.files shelf.old) (F.counts shelf.old) (F.asked shelf.old)) (K.taken sink.old) (K.faults sink.old))
+        (outside (S.left source.new) (S.faults source.new) (shelf_side (F.files shelf.new) (F.counts shelf.new) (F.asked shelf.new)) (K.taken sink.new) (K.faults sink.new))) }
 {
     let mut buffer = [0; MOST_AT_ONCE];
     let room = MOST_AT_ONCE.min(most as usize);
@@ -97,7 +97,7 @@ fn finish<F: Shelf, K: Sink>(
     shelf: &mut F,
     sink: &mut K,
 ) -> Status
-    ensures { Finishes result (last_lines line.now) session.old session.new (shelf_side (F.files shelf.old) (F.counts shelf.old)) (shelf_side (F.files shelf.new) (F.counts shelf.new)) (sink_side (K.taken sink.old) (K.faults sink.old)) (sink_side (K.taken sink.new) (K.faults sink.new)) }
+    ensures { Finishes result (last_lines line.now) session.old session.new (shelf_side (F.files shelf.old) (F.counts shelf.old) (F.asked shelf.old)) (shelf_side (F.files shelf.new) (F.counts shelf.new) (F.asked shelf.new)) (sink_side (K.taken sink.old) (K.faults sink.old)) (sink_side (K.taken sink.new) (K.faults sink.new)) }
 {
     if line.is_empty() {
         return Status::Done;
@@ -118,8 +118,8 @@ fn at_limit<S: Source, F: Shelf, K: Sink>(
     sink: &mut K,
 ) -> Status
     ensures { AtLimit result line.now session.old session.new
-        (outside (S.left source.old) (S.faults source.old) (shelf_side (F.files shelf.old) (F.counts shelf.old)) (K.taken sink.old) (K.faults sink.old))
-        (outside (S.left source.new) (S.faults source.new) (shelf_side (F.files shelf.new) (F.counts shelf.new)) (K.taken sink.new) (K.faults sink.new)) }
+        (outside (S.left source.old) (S.faults source.old) (shelf_side (F.files shelf.old) (F.counts shelf.old) (F.asked shelf.old)) (K.taken sink.old) (K.faults sink.old))
+        (outside (S.left source.new) (S.faults source.new) (shelf_side (F.files shelf.new) (F.counts shelf.new) (F.asked shelf.new)) (K.taken sink.new) (K.faults sink.new)) }
 {
     let mut buffer = [0; 1];
     match source.read(&mut buffer) {

@@ -27,8 +27,8 @@ pub fn feed<F: Shelf, K: Sink>(
     sink: &mut K,
 ) -> Result<Flow, Status>
     ensures { MatchResult result
-        (λ flow. Fed flow line.old.items bytes.now line.new.items session.old session.new (shelf_side (F.files shelf.old) (F.counts shelf.old)) (shelf_side (F.files shelf.new) (F.counts shelf.new)) (sink_side (K.taken sink.old) (K.faults sink.old)) (sink_side (K.taken sink.new) (K.faults sink.new)))
-        (λ status. Broke status (up_to_quit (ended_lines line.old.items bytes.now)) session.old (shelf_side (F.files shelf.old) (F.counts shelf.old)) (shelf_side (F.files shelf.new) (F.counts shelf.new)) (sink_side (K.taken sink.old) (K.faults sink.old)) (sink_side (K.taken sink.new) (K.faults sink.new))) }
+        (λ flow. Fed flow line.old.items bytes.now line.new.items session.old session.new (shelf_side (F.files shelf.old) (F.counts shelf.old) (F.asked shelf.old)) (shelf_side (F.files shelf.new) (F.counts shelf.new) (F.asked shelf.new)) (sink_side (K.taken sink.old) (K.faults sink.old)) (sink_side (K.taken sink.new) (K.faults sink.new)))
+        (λ status. Broke status (up_to_quit (ended_lines line.old.items bytes.now)) session.old (shelf_side (F.files shelf.old) (F.counts shelf.old) (F.asked shelf.old)) (shelf_side (F.files shelf.new) (F.counts shelf.new) (F.asked shelf.new)) (sink_side (K.taken sink.old) (K.faults sink.old)) (sink_side (K.taken sink.new) (K.faults sink.new))) }
 {
     for byte in bytes {
         match accept(alloc, *byte, line, session, shelf, sink)? {
@@ -49,8 +49,8 @@ fn accept<F: Shelf, K: Sink>(
     sink: &mut K,
 ) -> Result<Flow, Status>
     ensures { MatchResult result
-        (λ flow. Fed flow line.old.items (byte ∷ []) line.new.items session.old session.new (shelf_side (F.files shelf.old) (F.counts shelf.old)) (shelf_side (F.files shelf.new) (F.counts shelf.new)) (sink_side (K.taken sink.old) (K.faults sink.old)) (sink_side (K.taken sink.new) (K.faults sink.new)))
-        (λ status. Broke status (up_to_quit (ended_lines line.old.items (byte ∷ []))) session.old (shelf_side (F.files shelf.old) (F.counts shelf.old)) (shelf_side (F.files shelf.new) (F.counts shelf.new)) (sink_side (K.taken sink.old) (K.faults sink.old)) (sink_side (K.taken sink.new) (K.faults sink.new))) }
+        (λ flow. Fed flow line.old.items (byte ∷ []) line.new.items session.old session.new (shelf_side (F.files shelf.old) (F.counts shelf.old) (F.asked shelf.old)) (shelf_side (F.files shelf.new) (F.counts shelf.new) (F.asked shelf.new)) (sink_side (K.taken sink.old) (K.faults sink.old)) (sink_side (K.taken sink.new) (K.faults sink.new)))
+        (λ status. Broke status (up_to_quit (ended_lines line.old.items (byte ∷ []))) session.old (shelf_side (F.files shelf.old) (F.counts shelf.old) (F.asked shelf.old)) (shelf_side (F.files shelf.new) (F.counts shelf.new) (F.asked shelf.new)) (sink_side (K.taken sink.old) (K.faults sink.old)) (sink_side (K.taken sink.new) (K.faults sink.new))) }
 {
     if byte != b'\n' {
         keep(line, byte)?;

@@ -31,8 +31,8 @@ pub fn memoise<S: Source, F: Shelf, K: Sink>(
 ) -> Status
     // Whatever the devices answer: what was read, done and written, and why it ended.
     ensures conversation { Conversation 4294967295
-        (outside (S.left source.old) (S.faults source.old) (shelf_side (F.files shelf.old) (F.counts shelf.old)) (K.taken sink.old) (K.faults sink.old))
-        (outside (S.left source.new) (S.faults source.new) (shelf_side (F.files shelf.new) (F.counts shelf.new)) (K.taken sink.new) (K.faults sink.new))
+        (outside (S.left source.old) (S.faults source.old) (shelf_side (F.files shelf.old) (F.counts shelf.old) (F.asked shelf.old)) (K.taken sink.old) (K.faults sink.old))
+        (outside (S.left source.new) (S.faults source.new) (shelf_side (F.files shelf.new) (F.counts shelf.new) (F.asked shelf.new)) (K.taken sink.new) (K.faults sink.new))
         result }
 
     // Status 2 comes exactly where there are words on the command line, and then nothing is touched.
@@ -58,11 +58,11 @@ pub fn memoise<S: Source, F: Shelf, K: Sink>(
     // With no words, an input within the limit, or with such a quit, is done, and any other is too much,
     // unless memory ran out or a count of faults rose.
     ensures complete { words.now ≡ [] → IsSomeAnd (S.left source.old) (λ input. Fits 4294967295 input) → IsDoneUnlessRisen result
-        (outside (S.left source.old) (S.faults source.old) (shelf_side (F.files shelf.old) (F.counts shelf.old)) (K.taken sink.old) (K.faults sink.old))
-        (outside (S.left source.new) (S.faults source.new) (shelf_side (F.files shelf.new) (F.counts shelf.new)) (K.taken sink.new) (K.faults sink.new)) }
+        (outside (S.left source.old) (S.faults source.old) (shelf_side (F.files shelf.old) (F.counts shelf.old) (F.asked shelf.old)) (K.taken sink.old) (K.faults sink.old))
+        (outside (S.left source.new) (S.faults source.new) (shelf_side (F.files shelf.new) (F.counts shelf.new) (F.asked shelf.new)) (K.taken sink.new) (K.faults sink.new)) }
     ensures beyond { words.now ≡ [] → IsSomeAnd (S.left source.old) (λ input. Exceeds 4294967295 input) → IsTooMuchUnlessRisen result
-        (outside (S.left source.old) (S.faults source.old) (shelf_side (F.files shelf.old) (F.counts shelf.old)) (K.taken sink.old) (K.faults sink.old))
-        (outside (S.left source.new) (S.faults source.new) (shelf_side (F.files shelf.new) (F.counts shelf.new)) (K.taken sink.new) (K.faults sink.new)) }
+        (outside (S.left source.old) (S.faults source.old) (shelf_side (F.files shelf.old) (F.counts shelf.old) (F.asked shelf.old)) (K.taken sink.old) (K.faults sink.old))
+        (outside (S.left source.new) (S.faults source.new) (shelf_side (F.files shelf.new) (F.counts shelf.new) (F.asked shelf.new)) (K.taken sink.new) (K.faults sink.new)) }
 {
     if !words.is_empty() {
         return Status::Usage;

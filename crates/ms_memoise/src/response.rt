@@ -20,8 +20,8 @@ pub fn respond<F: Shelf, K: Sink>(
     sink: &mut K,
 ) -> Result<Flow, Status>
     ensures { MatchResult result
-        (λ flow. Responded flow line.now session.old session.new (shelf_side (F.files shelf.old) (F.counts shelf.old)) (shelf_side (F.files shelf.new) (F.counts shelf.new)) (sink_side (K.taken sink.old) (K.faults sink.old)) (sink_side (K.taken sink.new) (K.faults sink.new)))
-        (λ status. Broke status (line.now ∷ []) session.old (shelf_side (F.files shelf.old) (F.counts shelf.old)) (shelf_side (F.files shelf.new) (F.counts shelf.new)) (sink_side (K.taken sink.old) (K.faults sink.old)) (sink_side (K.taken sink.new) (K.faults sink.new))) }
+        (λ flow. Responded flow line.now session.old session.new (shelf_side (F.files shelf.old) (F.counts shelf.old) (F.asked shelf.old)) (shelf_side (F.files shelf.new) (F.counts shelf.new) (F.asked shelf.new)) (sink_side (K.taken sink.old) (K.faults sink.old)) (sink_side (K.taken sink.new) (K.faults sink.new)))
+        (λ status. Broke status (line.now ∷ []) session.old (shelf_side (F.files shelf.old) (F.counts shelf.old) (F.asked shelf.old)) (shelf_side (F.files shelf.new) (F.counts shelf.new) (F.asked shelf.new)) (sink_side (K.taken sink.old) (K.faults sink.old)) (sink_side (K.taken sink.new) (K.faults sink.new))) }
 {
     match read_command(alloc, line) {
         Ok(command) => run(alloc, &command, session, shelf, sink),
@@ -42,8 +42,8 @@ fn run<F: Shelf, K: Sink>(
 ) -> Result<Flow, Status>
     requires { IsInRange command.now }
     ensures { MatchResult result
-        (λ flow. Ran flow command.now session.old session.new (shelf_side (F.files shelf.old) (F.counts shelf.old)) (shelf_side (F.files shelf.new) (F.counts shelf.new)) (sink_side (K.taken sink.old) (K.faults sink.old)) (sink_side (K.taken sink.new) (K.faults sink.new)))
-        (λ status. Halted status command.now session.old (shelf_side (F.files shelf.old) (F.counts shelf.old)) (shelf_side (F.files shelf.new) (F.counts shelf.new)) (sink_side (K.taken sink.old) (K.faults sink.old)) (sink_side (K.taken sink.new) (K.faults sink.new))) }
+        (λ flow. Ran flow command.now session.old session.new (shelf_side (F.files shelf.old) (F.counts shelf.old) (F.asked shelf.old)) (shelf_side (F.files shelf.new) (F.counts shelf.new) (F.asked shelf.new)) (sink_side (K.taken sink.old) (K.faults sink.old)) (sink_side (K.taken sink.new) (K.faults sink.new)))
+        (λ status. Halted status command.now session.old (shelf_side (F.files shelf.old) (F.counts shelf.old) (F.asked shelf.old)) (shelf_side (F.files shelf.new) (F.counts shelf.new) (F.asked shelf.new)) (sink_side (K.taken sink.old) (K.faults sink.old)) (sink_side (K.taken sink.new) (K.faults sink.new))) }
 {
     session.command(alloc, command, shelf, sink)?;
     Ok(flow_after(command))

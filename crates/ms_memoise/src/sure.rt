@@ -21,8 +21,8 @@ pub fn memoise_sure(
     requires { length source.old ≤ 4294967295 }
     // As for any devices: what was read, done and written, and why it ended.
     ensures conversation { Conversation 4294967295
-        (outside (Some source.old) 0 (shelf_side (Some shelf.old.files) (sure_counts shelf.old)) (Some sink.old) 0)
-        (outside (Some source.new) 0 (shelf_side (Some shelf.new.files) (sure_counts shelf.new)) (Some sink.new) 0)
+        (outside (Some source.old) 0 (shelf_side (Some shelf.old.files) (sure_counts shelf.old) shelf.old.asked) (Some sink.old) 0)
+        (outside (Some source.new) 0 (shelf_side (Some shelf.new.files) (sure_counts shelf.new) shelf.new.asked) (Some sink.new) 0)
         result }
     ensures done { (result ≡ Status.Done) ⊎ (result ≡ Status.NoMemory) }
     // All of it was read, or a quit is among its lines; and the replies to its lines up to the first quit

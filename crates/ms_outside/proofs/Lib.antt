@@ -1,2 +1,3 @@
 mod Copied
 mod Parts
+mod Histories

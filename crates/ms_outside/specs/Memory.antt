@@ -2,7 +2,7 @@
 use Rattle.std.specs.Prelude.{ℕ, ◌+◌, ◌-◌, ◌^◌, ◌<◌, ◌==◌, List, ◌++◌, Bool, if◌then◌else◌, min, length, drop}
 use Rattle.std.specs.List.{list_any}
 use Rattle.ms_outside.specs.Counts.{ShelfCounts}
-use Rattle.ms_outside.specs.Shelves.{File, Answer, Absent, TooLong, Found}
+use Rattle.ms_outside.specs.Shelves.{File, Answer, Absent, TooLong, Found, answered, asked_with}
 use Rattle.ms_outside.specs.declared.shelf.Fetch.{Fetch}
 use Rattle.ms_outside.specs.declared.shelf.Fetch.TheVariants as fetched
 
@@ -20,11 +20,13 @@ pub record SinkState : Type 0 where
   pub calls : ℕ
   pub faults : ℕ
 
--- a shelf in memory: its files, the numbers of the calls that are to fail, how many calls came, and its three counts
+-- a shelf in memory: its files, the numbers of the calls that are to fail, how many calls came, what it was asked, with the
+-- answers that it gave, and its three counts
 pub record ShelfState : Type 0 where
   pub files : List File
   pub fails : List ℕ
   pub calls : ℕ
+  pub asked : List (List ℕ × Answer)
   pub counts : ShelfCounts
 
 -- a count of 64 bits that is raised by one; at its last value it stands still
@@ -61,9 +63,10 @@ counts_after old fetched.TooLong = record old { overlong = raised old.overlong }
 counts_after old fetched.Failed = record old { faults = raised old.faults }
 counts_after old fetched.NoMemory = old
 
--- the shelf after a fetch with this result
-abbrev pub shelf_after : ShelfState → Fetch → ShelfState
-shelf_after old result = record old { calls = raised old.calls; counts = counts_after old.counts result }
+-- the shelf after a fetch of this name with this result
+abbrev pub shelf_after : ShelfState → List ℕ → Fetch → ShelfState
+shelf_after old name result =
+    record old { calls = raised old.calls; asked = old.asked ++ asked_with name (answered result); counts = counts_after old.counts result }
 
 -- this answer has bytes, for which a fetch takes memory
 abbrev pub HasBytes : Answer → Type 0
@@ -71,9 +74,11 @@ HasBytes Absent = ⊥
 HasBytes TooLong = ⊥
 HasBytes (Found bytes) = 0 < length bytes
 
--- a shelf in memory that never fails: its files, how often it had no file of a name, and how often one that is too long
+-- a shelf in memory that never fails: its files, what it was asked, with the answers that it gave, how often it had no file
+-- of a name, and how often one that is too long
 pub record SureShelfState : Type 0 where
   pub files : List File
+  pub asked : List (List ℕ × Answer)
   pub misses : ℕ
   pub overlong : ℕ
 
@@ -81,10 +86,14 @@ pub record SureShelfState : Type 0 where
 abbrev pub sure_counts : SureShelfState → ShelfCounts
 sure_counts shelf = record { faults = 0; misses = shelf.misses; overlong = shelf.overlong }
 
--- that shelf after a fetch with this result
-abbrev pub sure_shelf_after : SureShelfState → Fetch → SureShelfState
-sure_shelf_after old (fetched.Bytes bytes) = old
-sure_shelf_after old fetched.Absent = record old { misses = raised old.misses }
-sure_shelf_after old fetched.TooLong = record old { overlong = raised old.overlong }
-sure_shelf_after old fetched.Failed = old
-sure_shelf_after old fetched.NoMemory = old
+-- that shelf with what it was asked by a fetch of this name with this result
+abbrev pub with_asked : SureShelfState → List ℕ → Fetch → SureShelfState
+with_asked old name result = record old { asked = old.asked ++ asked_with name (answered result) }
+
+-- that shelf after a fetch of this name with this result
+abbrev pub sure_shelf_after : SureShelfState → List ℕ → Fetch → SureShelfState
+sure_shelf_after old name (fetched.Bytes bytes) = with_asked old name (fetched.Bytes bytes)
+sure_shelf_after old name fetched.Absent = record (with_asked old name fetched.Absent) { misses = raised old.misses }
+sure_shelf_after old name fetched.TooLong = record (with_asked old name fetched.TooLong) { overlong = raised old.overlong }
+sure_shelf_after old name fetched.Failed = old
+sure_shelf_after old name fetched.NoMemory = old

@@ -1,7 +1,7 @@
-ghost use Rattle.std.specs.Prelude.{◌≡◌, ◌≢◌, IfOk, IfErr, IfSome, OnOk, IsUtf8, Option, List, None, Some};
+ghost use Rattle.std.specs.Prelude.{◌≡◌, ◌≢◌, ◌++◌, [], IfOk, IfErr, IfSome, OnOk, IsUtf8, Option, List, None, Some};
 ghost use Rattle.std.specs.IoError.{error_kind};
-ghost use Rattle.ms_outside.specs.Counts.{ShelfCounts};
-ghost use Rattle.ms_outside.specs.Shelves.{File, FetchHasCauses, IsWithinLimit, answer_of_contents, answered};
+ghost use Rattle.ms_outside.specs.Histories.{ShelfHistory};
+ghost use Rattle.ms_outside.specs.Shelves.{File, FetchHasCauses, IsWithinLimit, answer_of_contents, answered, asked_with};
 ghost use Rattle.ms_outside.specs.Memory.{counts_after};
 ghost use Rattle.ms_outside.specs.Folders.{open_answer, read_answer};
 
@@ -18,7 +18,7 @@ use std::{fs, io};
 const CHUNK_BYTES: usize = 4096;
 
 /// The files of the folder that the program runs in, and of other folders by their paths. It tells
-/// no files. A clause sees it as its counts.
+/// no files. A clause sees it as what it was asked, with the answers that it gave, and its counts.
 #[derive(Debug, Drop)]
 pub struct FolderShelf<R: Files + Drop> {
     files: R,
@@ -26,7 +26,7 @@ pub struct FolderShelf<R: Files + Drop> {
 }
 
 impl<R: Files + Drop> Model for FolderShelf<R> {
-    ghost Value = { ShelfCounts };
+    ghost Value = { ShelfHistory };
 
     ghost view = { λ shelf. shelf.tally };
 }
@@ -34,7 +34,7 @@ impl<R: Files + Drop> Model for FolderShelf<R> {
 impl<R: Files + Drop> FolderShelf<R> {
     /// A shelf over this runtime's files. No fetch has come yet.
     pub fn new(files: R) -> FolderShelf<R>
-        ensures { result ≡ record { faults = 0; misses = 0; overlong = 0 } }
+        ensures { result ≡ record { asked = []; counts = record { faults = 0; misses = 0; overlong = 0 } } }
     {
         FolderShelf {
             files,
@@ -46,19 +46,22 @@ impl<R: Files + Drop> FolderShelf<R> {
 impl<R: Files + Drop> Shelf for FolderShelf<R> {
     ghost files = { λ _. None };
 
-    ghost counts = { λ shelf. shelf };
+    ghost counts = { λ shelf. shelf.counts };
+
+    ghost asked = { λ shelf. shelf.asked };
 
     /// Opens the file and reads it to its end, or until it is too long. `Absent`: the open said that
     /// there is no such file, or no file can have this name. `NoMemory`: it said that memory ran
     /// out, or there is none for the bytes. `Failed`: any other error of the open or of a read.
     fn fetch(&mut self, alloc: Global, name: &[u8]) -> Fetch
         ensures size { IfSome (answered result) IsWithinLimit }
-        ensures causes { FetchHasCauses self.old self.new result }
-        ensures after { self.new ≡ counts_after self.old result }
+        ensures causes { FetchHasCauses self.old.counts self.new.counts result }
+        ensures asked { self.new.asked ≡ self.old.asked ++ asked_with name.now (answered result) }
+        ensures after { self.new.counts ≡ counts_after self.old.counts result }
         ensures no_text { ¬ IsUtf8 name.now → result ≡ Fetch.Absent }
     {
         let fetched = fetch_file(alloc, &self.files, name);
-        self.tally.count(&fetched);
+        self.tally.count(name, &fetched);
         fetched
     }
 }

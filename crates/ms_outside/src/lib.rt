@@ -9,6 +9,7 @@
 mod calls;
 mod copying;
 pub mod folder_shelf;
+mod history;
 pub mod memory_shelf;
 pub mod memory_sink;
 pub mod memory_source;

@@ -1,5 +1,5 @@
-ghost use Rattle.std.specs.Prelude.{◌≡◌, ◌≢◌, ℕ, List, Option, Some, IfSome};
-ghost use Rattle.ms_outside.specs.Shelves.{File, FetchHasCauses, IsWithinLimit, answer_of, answered};
+ghost use Rattle.std.specs.Prelude.{◌≡◌, ◌≢◌, ◌++◌, ℕ, List, [], Option, Some, IfSome};
+ghost use Rattle.ms_outside.specs.Shelves.{File, FetchHasCauses, IsWithinLimit, answer_of, answered, asked_with};
 ghost use Rattle.ms_outside.specs.Memory.{SureShelfState, HasBytes, sure_counts, sure_shelf_after};
 
 use crate::shelves::fetch_from;
@@ -18,13 +18,13 @@ pub struct SureShelf {
 impl Model for SureShelf {
     ghost Value = { SureShelfState };
 
-    ghost view = { λ shelf. record { files = shelf.files.items; misses = shelf.tally.misses; overlong = shelf.tally.overlong } };
+    ghost view = { λ shelf. record { files = shelf.files.items; asked = shelf.tally.asked; misses = shelf.tally.counts.misses; overlong = shelf.tally.counts.overlong } };
 }
 
 impl SureShelf {
     /// A shelf with these files.
     pub fn new(files: Vec<Shelved>) -> SureShelf
-        ensures { result ≡ record { files = files.items; misses = 0; overlong = 0 } }
+        ensures { result ≡ record { files = files.items; asked = []; misses = 0; overlong = 0 } }
     {
         SureShelf {
             files,
@@ -38,18 +38,21 @@ impl Shelf for SureShelf {
 
     ghost counts = { sure_counts };
 
+    ghost asked = { λ shelf. shelf.asked };
+
     /// Never answers `Failed`. `NoMemory` comes only where there are bytes to hand out.
     fn fetch(&mut self, alloc: Global, name: &[u8]) -> Fetch
         ensures answer { IfSome (answered result) (λ answer. answer ≡ answer_of self.old.files name.now) }
         ensures size { IfSome (answered result) IsWithinLimit }
         ensures files { self.new.files ≡ self.old.files }
         ensures causes { FetchHasCauses (sure_counts self.old) (sure_counts self.new) result }
+        ensures asked { self.new.asked ≡ self.old.asked ++ asked_with name.now (answered result) }
         ensures sure { result ≢ Fetch.Failed }
         ensures memory { result ≡ Fetch.NoMemory → HasBytes (answer_of self.old.files name.now) }
-        ensures after { self.new ≡ sure_shelf_after self.old result }
+        ensures after { self.new ≡ sure_shelf_after self.old name.now result }
     {
         let fetched = fetch_from(alloc, self.files.as_slice(), name);
-        self.tally.count(&fetched);
+        self.tally.count(name, &fetched);
         fetched
     }
 }

@@ -1,44 +1,48 @@
-ghost use Rattle.std.specs.Prelude.{◌≡◌};
+ghost use Rattle.std.specs.Prelude.{◌≡◌, [], ◌++◌};
+ghost use Rattle.ms_outside.specs.Shelves.{FetchHasCauses, answered, asked_with};
+ghost use Rattle.ms_outside.specs.Memory.{counts_after};
 
 use crate::Fetch;
+use crate::history::History;
 use std::marker::Model;
 
-/// How often a shelf failed, had no file of a name, and had one that is too long. Each of the three
-/// stands still at 2^64 - 1.
+/// What a shelf was asked, and how often it failed, had no file of a name, and had one that is too long.
+/// Each of the three counts stands still at 2^64 - 1.
 #[derive(Debug, Drop)]
 pub(crate) struct Tally {
+    history: History,
     faults: u64,
     misses: u64,
     overlong: u64,
 }
 
 impl Model for Tally {
-    ghost use Rattle.ms_outside.specs.Counts.{ShelfCounts};
+    ghost use Rattle.ms_outside.specs.Histories.{ShelfHistory};
 
-    ghost Value = { ShelfCounts };
+    ghost Value = { ShelfHistory };
 
-    ghost view = { λ tally. record { faults = tally.faults; misses = tally.misses; overlong = tally.overlong } };
+    ghost view = { λ tally. record { asked = tally.history; counts = record { faults = tally.faults; misses = tally.misses; overlong = tally.overlong } } };
 }
 
 impl Tally {
-    ghost use Rattle.ms_outside.specs.Shelves.{FetchHasCauses};
-    ghost use Rattle.ms_outside.specs.Memory.{counts_after};
-
     pub(crate) fn new() -> Tally
-        ensures { result ≡ record { faults = 0; misses = 0; overlong = 0 } }
+        ensures { result ≡ record { asked = []; counts = record { faults = 0; misses = 0; overlong = 0 } } }
     {
         Tally {
+            history: History::new(),
             faults: 0,
             misses: 0,
             overlong: 0,
         }
     }
 
-    /// Raises the count that tells of this answer, if one does.
-    pub(crate) fn count(&mut self, fetched: &Fetch)
-        ensures after { self.new ≡ counts_after self.old fetched.now }
-        ensures causes { FetchHasCauses self.old self.new fetched.now }
+    /// Adds the name with its answer, where there is one, and raises the count that tells of it, if one does.
+    pub(crate) fn count(&mut self, name: &[u8], fetched: &Fetch)
+        ensures asked { self.new.asked ≡ self.old.asked ++ asked_with name.now (answered fetched.now) }
+        ensures after { self.new.counts ≡ counts_after self.old.counts fetched.now }
+        ensures causes { FetchHasCauses self.old.counts self.new.counts fetched.now }
     {
+        self.history.add(name, fetched);
         match fetched {
             Fetch::Bytes(_) | Fetch::NoMemory => {}
             Fetch::Absent => self.misses = self.misses.saturating_add(1),

@@ -1,5 +1,5 @@
 -- What a session does with its entry.
-use Rattle.std.proofs.Common.{◌≡◌, ◌<◌, length, take, ℕ, Bool, true, false, List, [], ◌∷◌, Option, Some, None, refl, sym, ap, subst, ◌∙◌, arith}
+use Rattle.std.proofs.Common.{◌≡◌, ◌<◌, length, take, ℕ, Bool, true, false, List, [], ◌∷◌, Option, Some, None, refl, sym, ap, subst, ◌∙◌, arith, append-nil}
 use Rattle.std.specs.Io.KnownBytes.{Appends}
 use Rattle.std.proofs.KnownBytes.{Appends-nil}
 use Rattle.ms_command.specs.declared.command.Command.{Command}
@@ -170,7 +170,7 @@ unbuilt_says state class name desc method one same entry other =
 -- ---- WHAT IS PREPARED
 
 pub none_asked : (at : ShelfSide) → AreAnswers at at [] []
-none_asked at = record { each = refl; size = tt; causes = tt; told = none_told at.files }
+none_asked at = record { each = refl; asked = sym (append-nil at.asked); size = tt; causes = tt; told = none_told at.files }
   where
     none_told : (files : Option (List File)) → IfSome files (λ f. ◌≡◌ {A = List Answer} [] [])
     none_told None = tt
@@ -203,3 +203,24 @@ pub once_said : (state : State) (file name desc : List ℕ) (words : List ℤ) (
     → IfOk result (λ r. Says (next state (commands.Once file name desc words) (answer ∷ [])) r state)
 once_said state file name desc words answer (Ok r) is = record { text = ap reply_text (sym is); state_is = refl }
 once_said state file name desc words answer (Err none) is = tt
+
+-- a command that names no file leaves the shelf as it was
+pub prepared_unasked : (command : Command) (state state_now : State) (output : Output) (at : ShelfSide) → names_in command ≡ [] → Leads (next state command []) output state_now → IsShort output → Prepared command state state_now output at at
+prepared_unasked command state state_now output at none leads short = record {
+  answers = [];
+  given = subst (λ names. AreAnswers at at names []) (sym none) (none_asked at);
+  leads = leads;
+  short = short;
+  unasked = λ none. refl;
+  passes = same_shelf at;
+  calm = refl;
+}
+
+-- what becomes of what is to be written, or of want of memory, where no file is named
+pub kept_so : (command : Command) (state state_now : State) (at : ShelfSide) (output : Result Output AllocError) (result : Result Output Stop) → names_in command ≡ []
+    → MatchResult result (λ out. output ≡ Ok out) (λ stop. (stop ≡ stops.NoMemory) × IsErr output) → IfOk output (λ out. Leads (next state command []) out state_now) → IfOk output IsShort
+    → MatchResult result (λ out. Prepared command state state_now out at at) (λ stop. PrepareStops stop command at at)
+kept_so command state state_now at output (Ok out) none is leads short =
+    prepared_unasked command state state_now out at none (subst (λ o. IfOk o (λ out. Leads (next state command []) out state_now)) is leads) (subst (λ o. IfOk o IsShort) is short)
+kept_so command state state_now at output (Err stop) none is leads short =
+    subst (λ s. PrepareStops s command at at) (sym is.0) (record { fetch = record { cause = refl; passes = same_shelf at }; asked = tt; unasked = λ none. refl })

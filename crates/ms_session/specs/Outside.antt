@@ -1,18 +1,20 @@
 -- The shelf and the sink at a moment, and what a command did with them.
-use Rattle.std.specs.Prelude.{◌≡◌, ℕ, ◌≤◌, List, length, map, Option, IfSome}
+use Rattle.std.specs.Prelude.{◌≡◌, ℕ, ◌≤◌, List, ◌++◌, length, map, zip, Option, IfSome}
 use Rattle.std.specs.List.{AllByRecursion}
 use Rattle.ms_outside.specs.Counts.{CountsGrow, ShelfCounts, Rose}
 use Rattle.ms_outside.specs.Shelves as shelves
 use Rattle.ms_outside.specs.Shelves.{Answer, File, IsWithinLimit, answer_of}
 
--- a shelf at a moment: its files, where it tells them, and its counts
+-- a shelf at a moment: its files, where it tells them, its counts, and the names that it was asked for so far, each with the
+-- answer that it gave
 pub record ShelfSide : Type 0 where
   pub files : Option (List File)
   pub counts : ShelfCounts
+  pub asked : List (List ℕ × Answer)
 
 -- a shelf by its parts
-abbrev pub shelf_side : Option (List File) → ShelfCounts → ShelfSide
-shelf_side files counts = record { files = files; counts = counts }
+abbrev pub shelf_side : Option (List File) → ShelfCounts → List (List ℕ × Answer) → ShelfSide
+shelf_side files counts asked = record { files = files; counts = counts; asked = asked }
 
 -- a sink at a moment: what it has taken, where it tells that, and its count of faults
 pub record SinkSide : Type 0 where
@@ -29,10 +31,12 @@ HasCauseFor before now shelves.Absent = Rose before.counts.misses now.counts.mis
 HasCauseFor before now shelves.TooLong = Rose before.counts.overlong now.counts.overlong
 HasCauseFor before now (shelves.Found bytes) = Unit {0}
 
--- the shelf gave these answers to these names between the two moments, as far as its counts and files tell
+-- Between the two moments the shelf was asked for these names, once each and in this order, and for no others, and gave these
+-- answers.
 pub record AreAnswers (before now : ShelfSide) (names : List (List ℕ)) (answers : List Answer) : Type 0 where
   -- there is one answer to each name
   pub each : length answers ≡ length names
+  pub asked : now.asked ≡ before.asked ++ zip names answers
   pub size : AllByRecursion IsWithinLimit answers
   pub causes : AllByRecursion (HasCauseFor before now) answers
   -- where the shelf tells its files, the answers are theirs

@@ -4,8 +4,7 @@ use Rattle.std.specs.List.{list_any, range_with_len}
 use Rattle.std.specs.Str.{bytes_eq}
 use Rattle.std.specs.BTreeSet.{insert_key}
 use Rattle.std.specs.BTreeMap.{is_at}
-use Rattle.std.specs.Cmp.Lexicographic.{slice_cmp}
-use Rattle.std.specs.Ordering.{nat_cmp}
+use Rattle.ms_trie.specs.Choices.{choice_order}
 
 -- whether two strings are one
 abbrev pub same : List ℕ → List ℕ → Bool
@@ -22,8 +21,8 @@ proper_prefixes (arm ∷ arms) = [] ∷ map (λ q. arm ∷ q) (proper_prefixes a
 
 -- a set of strings, in choice order: arm by arm, a prefix before what it begins
 abbrev pub holds : List (List ℕ) → List ℕ → Bool
-holds strings p = list_any (is_at (slice_cmp nat_cmp p)) strings
+holds strings p = list_any (is_at (choice_order p)) strings
 
 -- a set of strings with one more
 abbrev pub with_string : List (List ℕ) → List ℕ → List (List ℕ)
-with_string strings p = insert_key (slice_cmp nat_cmp) strings p
+with_string strings p = insert_key choice_order strings p

@@ -21,8 +21,8 @@ pub enum Fetched {
 /// Asks the shelf for a file.
 pub fn ask<F: Shelf>(alloc: Global, file: &Name, shelf: &mut F) -> Result<Fetched, Stop>
     ensures { MatchResult result
-        (λ found. IsGiven file.now (answer_in found) (shelf_side (F.files shelf.old) (F.counts shelf.old)) (shelf_side (F.files shelf.new) (F.counts shelf.new)))
-        (λ stop. FetchStops stop (shelf_side (F.files shelf.old) (F.counts shelf.old)) (shelf_side (F.files shelf.new) (F.counts shelf.new))) }
+        (λ found. IsGiven file.now (answer_in found) (shelf_side (F.files shelf.old) (F.counts shelf.old) (F.asked shelf.old)) (shelf_side (F.files shelf.new) (F.counts shelf.new) (F.asked shelf.new)))
+        (λ stop. FetchStops stop (shelf_side (F.files shelf.old) (F.counts shelf.old) (F.asked shelf.old)) (shelf_side (F.files shelf.new) (F.counts shelf.new) (F.asked shelf.new))) }
 {
     match shelf.fetch(alloc, file.bytes()) {
         Fetch::Bytes(bytes) => Ok(Fetched::Bytes(bytes)),

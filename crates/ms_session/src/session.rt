@@ -77,8 +77,8 @@ impl Session {
     ) -> Result<(), Stop>
         requires { IsInRange command.now }
         ensures { MatchResult result
-            (λ _. Done command.now self.old self.new (shelf_side (F.files shelf.old) (F.counts shelf.old)) (shelf_side (F.files shelf.new) (F.counts shelf.new)) (sink_side (K.taken sink.old) (K.faults sink.old)) (sink_side (K.taken sink.new) (K.faults sink.new)))
-            (λ stop. Stopped stop command.now self.old (shelf_side (F.files shelf.old) (F.counts shelf.old)) (shelf_side (F.files shelf.new) (F.counts shelf.new)) (sink_side (K.taken sink.old) (K.faults sink.old)) (sink_side (K.taken sink.new) (K.faults sink.new))) }
+            (λ _. Done command.now self.old self.new (shelf_side (F.files shelf.old) (F.counts shelf.old) (F.asked shelf.old)) (shelf_side (F.files shelf.new) (F.counts shelf.new) (F.asked shelf.new)) (sink_side (K.taken sink.old) (K.faults sink.old)) (sink_side (K.taken sink.new) (K.faults sink.new)))
+            (λ stop. Stopped stop command.now self.old (shelf_side (F.files shelf.old) (F.counts shelf.old) (F.asked shelf.old)) (shelf_side (F.files shelf.new) (F.counts shelf.new) (F.asked shelf.new)) (sink_side (K.taken sink.old) (K.faults sink.old)) (sink_side (K.taken sink.new) (K.faults sink.new))) }
     {
         let output = match self.prepare(alloc, command, shelf) {
             Ok(output) => output,
@@ -96,8 +96,8 @@ impl Session {
     ) -> Result<Output, Stop>
         requires { IsInRange command.now }
         ensures { MatchResult result
-            (λ output. Prepared command.now self.old self.new output (shelf_side (F.files shelf.old) (F.counts shelf.old)) (shelf_side (F.files shelf.new) (F.counts shelf.new)))
-            (λ stop. PrepareStops stop command.now (shelf_side (F.files shelf.old) (F.counts shelf.old)) (shelf_side (F.files shelf.new) (F.counts shelf.new))) }
+            (λ output. Prepared command.now self.old self.new output (shelf_side (F.files shelf.old) (F.counts shelf.old) (F.asked shelf.old)) (shelf_side (F.files shelf.new) (F.counts shelf.new) (F.asked shelf.new)))
+            (λ stop. PrepareStops stop command.now (shelf_side (F.files shelf.old) (F.counts shelf.old) (F.asked shelf.old)) (shelf_side (F.files shelf.new) (F.counts shelf.new) (F.asked shelf.new))) }
     {
         match command {
             Command::Once {

@@ -1,9 +1,10 @@
 ghost use Rattle.std.specs.Prelude.{◌≡◌, ◌∷◌, ◌++◌, ◌<◌, ◌≤◌, ◌==◌, [], length, IfOk, IsOk, OnOk, OnErr};
 ghost use Rattle.std.proofs.Common.{rules};
 ghost use Rattle.std.specs.Cmp.{partial_order_from_own_ties};
-ghost use Rattle.std.specs.Cmp.Lexicographic.{pointwise, slice_cmp};
+ghost use Rattle.std.specs.Cmp.Lexicographic.{pointwise};
 ghost use Rattle.std.specs.Cmp.Rules.{comparing};
-ghost use Rattle.std.specs.Ordering.{as_partial_cmp, nat_cmp};
+ghost use Rattle.std.specs.Ordering.{as_partial_cmp};
+ghost use Rattle.ms_trie.specs.Choices.{choice_order};
 
 use ms_words::NoMemory;
 use smallvec::SmallVec;
@@ -22,7 +23,7 @@ pub struct ChoiceString {
 }
 
 impl Model for ChoiceString {
-    ghost use Rattle.std.specs.Prelude.{ℕ, ◌<◌, ◌≤◌, List, length};
+    ghost use Rattle.std.specs.Prelude.{ℕ, ◌≤◌, List, length};
 
     ghost Value = { List ℕ };
 
@@ -41,8 +42,8 @@ impl ChoiceString {
         }
     }
 
-    /// Adds an arm at the end of a string of fewer than 256. It fails for want of memory alone, and then changes nothing; it takes none for the first
-    /// 16.
+    /// Adds an arm at the end of a string of fewer than 256. It fails for want of memory alone, and then
+    /// changes nothing; it takes none for the first 16.
     pub fn push(&mut self, arm: u16) -> Result<(), NoMemory>
         requires { length self.old < 256 }
         ensures ok { OnOk result (self.new ≡ self.old ++ arm ∷ []) }
@@ -71,8 +72,8 @@ impl ChoiceString {
         })
     }
 
-    /// The string, of fewer than 256 arms, followed by this arm. It fails for want of memory alone, and takes none where 16 arms or fewer come
-    /// of it.
+    /// The string, of fewer than 256 arms, followed by this arm. It fails for want of memory alone, and
+    /// takes none where 16 arms or fewer come of it.
     pub fn with(&self, alloc: Global, arm: u16) -> Result<ChoiceString, NoMemory>
         requires { length self.now < 256 }
         ensures added { IfOk result (λ string. string ≡ self.now ++ arm ∷ []) }
@@ -99,7 +100,7 @@ impl Eq for ChoiceString {
 }
 
 impl PartialOrd for ChoiceString {
-    ghost partial_cmp = { as_partial_cmp (slice_cmp nat_cmp) };
+    ghost partial_cmp = { as_partial_cmp choice_order };
 
     ghost laws = { partial_order_from_own_ties (Prim.search (comparing, rules)) (Prim.search (comparing, rules)) };
 
@@ -109,7 +110,7 @@ impl PartialOrd for ChoiceString {
 }
 
 impl Ord for ChoiceString {
-    ghost cmp = { slice_cmp nat_cmp };
+    ghost cmp = { choice_order };
 
     ghost total = { Prim.search (comparing, rules) };
 

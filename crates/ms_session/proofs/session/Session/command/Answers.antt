@@ -8,8 +8,8 @@ returns-in-Err g c = stopped_early c.in-Err.stop c.args.command.now c.args.self.
 
 pub returns : goal.returns
 returns g c =
-    let before = shelf_side (g.F.Shelf.files c.args.shelf.now) (g.F.Shelf.counts c.args.shelf.now) in
-    let now = shelf_side (g.F.Shelf.files c.prepare.new.shelf) (g.F.Shelf.counts c.prepare.new.shelf) in
+    let before = shelf_side (g.F.Shelf.files c.args.shelf.now) (g.F.Shelf.counts c.args.shelf.now) (g.F.Shelf.asked c.args.shelf.now) in
+    let now = shelf_side (g.F.Shelf.files c.prepare.new.shelf) (g.F.Shelf.counts c.prepare.new.shelf) (g.F.Shelf.asked c.prepare.new.shelf) in
     let sink = sink_side (g.K.Sink.taken c.args.sink.now) (g.K.Sink.faults c.args.sink.now) in
     let sink_now = sink_side (g.K.Sink.taken c.write_output.new.sink) (g.K.Sink.faults c.write_output.new.sink) in
     MatchResult-weaker c.write_output.result c.write_output.ensures

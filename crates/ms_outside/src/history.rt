@@ -1,0 +1,70 @@
+ghost use Rattle.std.specs.Prelude.{◌≡◌, ◌++◌, [], fold};
+ghost use Rattle.ms_outside.specs.Histories.{with_byte};
+ghost use Rattle.ms_outside.specs.Shelves.{answered, asked_with};
+
+use crate::Fetch;
+use http_server::Log;
+use std::fmt;
+use std::marker::Model;
+
+/// What a shelf was asked, with the answers that it gave. It takes no memory: a clause sees it as the
+/// list of names and answers, and nothing is done at run time.
+#[derive(Drop)]
+pub(crate) struct History {
+    notes: Log<Option<u8>, Fetch>,
+}
+
+impl Model for History {
+    ghost use Rattle.std.specs.Prelude.{ℕ, List};
+    ghost use Rattle.ms_outside.specs.Histories.{asked_in};
+    ghost use Rattle.ms_outside.specs.Shelves.{Answer};
+
+    ghost Value = { List (List ℕ × Answer) };
+
+    ghost view = { λ history. asked_in history.notes.items };
+}
+
+impl History {
+    /// Nothing was asked yet.
+    pub(crate) fn new() -> History
+        ensures { result ≡ [] }
+    {
+        History { notes: Log::new() }
+    }
+
+    /// Adds the name of a fetch with its answer, where it brought one.
+    pub(crate) fn add(&mut self, name: &[u8], fetched: &Fetch)
+        ensures { self.new ≡ self.old ++ asked_with name.now (answered fetched.now) }
+    {
+        match fetched {
+            Fetch::Bytes(_) | Fetch::Absent | Fetch::TooLong => {
+                self.begin(fetched);
+                self.add_name(name, fetched);
+            }
+            Fetch::Failed | Fetch::NoMemory => {}
+        }
+    }
+
+    /// Begins with the answer of a fetch. The name is empty yet.
+    fn begin(&mut self, fetched: &Fetch)
+        ensures { self.new ≡ self.old ++ asked_with [] (answered fetched.now) }
+    {
+        self.notes = self.notes.and(&None, fetched);
+    }
+
+    /// Adds these bytes to the last name.
+    fn add_name(&mut self, name: &[u8], fetched: &Fetch)
+        ensures { self.new ≡ fold with_byte self.old name.now }
+    {
+        for byte in name {
+            self.notes = self.notes.and(&Some(*byte), fetched);
+        }
+    }
+}
+
+/// It holds nothing at run time that could be shown.
+impl fmt::Debug for History {
+    fn fmt<W: fmt::Write>(&self, f: &mut fmt::Formatter<W>) -> fmt::Result {
+        f.write_str("History")
+    }
+}
