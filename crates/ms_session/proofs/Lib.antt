@@ -5,6 +5,9 @@ pub mod Sets
 pub mod Settling
 pub mod Inputs
 pub mod Entries
+pub mod Members
+pub mod Listing
+pub mod Least
 pub mod Writing
 pub mod Called
 pub mod Sessions
