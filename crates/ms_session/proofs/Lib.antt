@@ -8,6 +8,7 @@ pub mod Entries
 pub mod Members
 pub mod Listing
 pub mod Least
+pub mod Reports
 pub mod Writing
 pub mod Called
 pub mod Sessions
