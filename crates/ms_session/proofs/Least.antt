@@ -19,6 +19,7 @@ input_is P x input = λ i. record { kinds = input.kinds i; words = x.words }
 pub listed : (P : Program) (x : Words) → IsInputOf P x → IsIn x.words (inputs_of P.entry.kinds)
 listed P x input = input_in P.entry.kinds x.words (subst (λ ks. IsTrue (are_of ks x.words)) input.kinds input.words)
 
+-- an input that takes the string is one of the takers
 taker_in : (P : Program) (p : List ℕ) (x : Words) → IsInputOf P x → Takes P x p → IsIn x.words (takers P p)
 taker_in P p x input takes =
     in_filter (λ words. same (string P (input_with P words) (length p)) p) x.words (inputs_of P.entry.kinds) (listed P x input)
@@ -29,6 +30,7 @@ record IsTaker (P : Program) (p : List ℕ) (x : Words) : Type 0 where
   input : IsInputOf P x
   takes : Takes P x p
 
+-- each of the takers is an input, and takes the string
 taker_is : (P : Program) (p : List ℕ) (words : List ℤ) → IsIn words (takers P p) → IsTaker P p (input_with P words)
 taker_is P p words is =
     let both = from_filter (λ (ws : List ℤ). same (string P (input_with P ws) (length p)) p) words (inputs_of P.entry.kinds) is in
@@ -43,6 +45,7 @@ first_of_takers P p first words found is =
     let Before : List ℤ → List ℤ → Type 0 = λ xs ys. IsTrue (comes_before P.entry.kinds xs ys) in
     first_before Before first words (takers P p) (ordered_filter Before (λ ws. same (string P (input_with P ws) (length p)) p) (inputs_of P.entry.kinds) (inputs_ordered P.entry.kinds)) found is
 
+-- so none of the others comes before it
 none_before : (P : Program) (p : List ℕ) (first words : List ℤ) → (first ≡ words) ⊎ IsTrue (comes_before P.entry.kinds first words) → IsTrue (comes_before P.entry.kinds words first) → ⊥
 none_before P p first words (inl here) before =
     let itself = subst (λ ws. IsTrue (comes_before P.entry.kinds words ws)) here before in

@@ -23,6 +23,7 @@ record IsNumbered (kind : Kind) (n : ℕ) (word : ℤ) : Type 0 where
 less : (n m : ℕ) → n < m → IsTrue (nat_lt n m)
 less n m h = grind (arith, nat_tests)
 
+-- the word of a number is one of the kind, and has that number
 numbered : (kind : Kind) (n : ℕ) → n < 2 ^ bits_of kind → IsNumbered kind n (word_with kind n)
 numbered Z n h = record { is = less n 2 h; number = omega arith }
 numbered C n h = record { is = less n 65536 h; number = omega arith }
@@ -51,11 +52,13 @@ word_numbered : (kind : Kind) (word : ℤ) → IsIn word (words_of kind) → Ori
 unfolding words_of
 word_numbered kind word is = from_map (word_with kind) word (below (2 ^ bits_of kind)) is
 
+-- a word that is listed is one of the kind
 word_is : (kind : Kind) (word : ℤ) → IsIn word (words_of kind) → IsTrue (is_of kind word)
 word_is kind word is =
     let origin = word_numbered kind word is in
     subst (λ w. IsTrue (is_of kind w)) origin.makes (numbered kind origin.x (from_below origin.x (2 ^ bits_of kind) origin.is)).is
 
+-- a word of the kind is listed
 word_in : (kind : Kind) (word : ℤ) → IsTrue (is_of kind word) → IsIn word (words_of kind)
 unfolding words_of
 word_in kind word is =
@@ -65,6 +68,7 @@ word_in kind word is =
     subst (λ w. IsIn w (map (word_with kind) (below (2 ^ bits_of kind)))) same
     (in_map (word_with kind) n (below (2 ^ bits_of kind)) (in_below n (2 ^ bits_of kind) (number_below kind word)))
 
+-- the words of a kind are listed by their numbers
 words_ordered : (kind : Kind) → IsOrdered (λ v w. unsigned_of kind v < unsigned_of kind w) (words_of kind)
 unfolding words_of
 words_ordered kind =
@@ -83,6 +87,7 @@ are_whole [] (word ∷ words) are = absurd cc
 are_whole (kind ∷ kinds) [] are = absurd cc
 are_whole (kind ∷ kinds) (word ∷ words) are = ap suc (are_whole kinds words (and_parts _ _ are).1)
 
+-- words that are listed are an input
 pub inputs_are : (kinds : List Kind) (words : List ℤ) → IsIn words (inputs_of kinds) → IsTrue (are_of kinds words)
 inputs_are [] words (inl here) = subst (λ ws. IsTrue (are_of [] ws)) here refl
 inputs_are [] words (inr later) = absurd later
@@ -91,6 +96,7 @@ inputs_are (kind ∷ kinds) words is =
     let others = from_map (λ rest. first.x ∷ rest) words (inputs_of kinds) first.makes in
     subst (λ ws. IsTrue (are_of (kind ∷ kinds) ws)) others.makes (and_from _ _ (word_is kind first.x first.is) (inputs_are kinds others.x others.is))
 
+-- the words of an input are listed
 pub input_in : (kinds : List Kind) (words : List ℤ) → IsTrue (are_of kinds words) → IsIn words (inputs_of kinds)
 input_in [] [] are = inl refl
 input_in [] (word ∷ words) are = absurd cc
@@ -109,6 +115,7 @@ first_same n later h = grind (arith, nat_tests)
 lower_first : (kind : Kind) (kinds : List Kind) (v w : ℤ) (xs ys : List ℤ) → unsigned_of kind v < unsigned_of kind w → IsTrue (comes_before (kind ∷ kinds) (v ∷ xs) (w ∷ ys))
 lower_first kind kinds v w xs ys h = first_lower (unsigned_of kind v) (unsigned_of kind w) (comes_before kinds xs ys) h
 
+-- inputs are listed in their order
 pub inputs_ordered : (kinds : List Kind) → IsOrdered (λ xs ys. IsTrue (comes_before kinds xs ys)) (inputs_of kinds)
 inputs_ordered [] = (tt, tt)
 inputs_ordered (kind ∷ kinds) =

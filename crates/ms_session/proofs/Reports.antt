@@ -43,6 +43,7 @@ data Next (after : After Int) : Type 0 where
   Last : arms_in after ≡ 0 → ((go : Done Int → List ℕ) → arms_at word_arm go after ≡ []) → Next after
   More : (arm : ℕ) (done : Done Int) → arm < arms_in after → ((go : Done Int → List ℕ) → arms_at word_arm go after ≡ arm ∷ go done) → Next after
 
+-- the arm that a test takes is one of its arms
 case_within : (word : ℤ) (keys : List ℤ) → case_of word keys < suc (length keys)
 case_within word [] = omega arith
 case_within word (key ∷ keys) = let later = case_within word keys in grind arith
@@ -131,6 +132,7 @@ arms_found P x p shares input takes (Some words) is =
     let least : IsLeast P p (input_with P words) = (least_comes_first P p).found words is in
     arms_shared P x (input_with P words) p (shares (input_with P words) least.input)
 
+-- behind a string that an input takes, the tree has the string of its run
 in_tree : (P : Program) (x : Words) → ((y : Words) → IsInputOf P y → SharesShadows P x y) → IsInputOf P x → (left : ℕ) (p : List ℕ) → Takes P x p
     → (depth : ℕ) → depth ≡ length p + left → IsIn (string P x depth) (tree_from P left p)
 unfolding tree_from
@@ -157,6 +159,7 @@ record Begins (p q : List ℕ) : Type 0 where
 begins_less : (p q : List ℕ) (arm : ℕ) → Begins (p ++ arm ∷ []) q → Begins p q
 begins_less p q arm begins = record { rest = arm ∷ begins.rest; is = sym (append_assoc p (arm ∷ []) begins.rest) ∙ begins.is }
 
+-- the strings from p on begin with p
 tree_begins : (P : Program) (left : ℕ) (p q : List ℕ) → IsIn q (tree_from P left p) → Begins p q
 unfolding tree_from
 tree_begins P zero p q (inl here) = record { rest = []; is = append-nil p ∙ here }
@@ -232,6 +235,7 @@ path_taken P depth p is =
     let origin = from_any (λ (words : List ℤ). same (string P (input_with P words) depth) p) (inputs_of P.entry.kinds) is in
     record { x = origin.x; is = origin.is; makes = (bytes_eq-Decides (string P (input_with P origin.x) depth) p).0 origin.makes }
 
+-- each row is that of a path
 path_row : (P : Program) (depth : ℕ) → IsReportable P depth → (row : PathRow) → IsIn row (report P depth) → IsPathRow P depth row
 path_row P depth able row is =
     let origin = from_filter_map (row_of P depth) row (filter (is_path P depth) (tree P depth)) is in
@@ -251,6 +255,7 @@ path_row P depth able row is =
       outcome = refl;
     })
 
+-- a string that some input takes has a row
 row_some : (P : Program) (depth : ℕ) → IsReportable P depth → (p : List ℕ) (x : Words) → IsInputOf P x → Takes P x p → (least : Option (List ℤ)) → least_of P p ≡ least → is_some (row_of_least P depth p least) ≡ true
 row_some P depth able p x input takes None is = absurd ((least_comes_first P p).absent is x input takes)
 row_some P depth able p x input takes (Some words) is = by_end (path_end_of (end_of P (input_with P words) depth)) (able.ends (input_with P words) ((least_comes_first P p).found words is).input)
@@ -259,6 +264,7 @@ row_some P depth able p x input takes (Some words) is = by_end (path_end_of (end
     by_end None some = some
     by_end (Some end) some = refl
 
+-- the string of each run has a row
 path_listed : (P : Program) (depth : ℕ) → IsReportable P depth → (x : Words) → IsInputOf P x → Contains (strings_of (report P depth)) (string P x depth)
 path_listed P depth able x input =
     let p = string P x depth in
