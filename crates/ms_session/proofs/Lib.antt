@@ -13,3 +13,4 @@ pub mod Writing
 pub mod Called
 pub mod Sessions
 mod Example
+mod Determined
