@@ -5,7 +5,12 @@ pub mod Sets
 pub mod Settling
 pub mod Inputs
 pub mod Entries
+pub mod Members
+pub mod Listing
+pub mod Least
+pub mod Reports
 pub mod Writing
 pub mod Called
 pub mod Sessions
 mod Example
+mod Determined

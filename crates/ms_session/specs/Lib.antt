@@ -1,5 +1,6 @@
 pub mod Strings
 pub mod Paths
+pub mod Laws
 pub mod Known
 pub mod Growing
 pub mod Walking

@@ -1,0 +1,50 @@
+-- Laws of least inputs and of reports: what the lists of inputs and of strings give, in the machine's words for
+-- inputs and runs.
+use Rattle.std.specs.Prelude.{◌≡◌, ℕ, ℤ, List, map, All, AllPairs, Contains, Some, None}
+use Rattle.std.specs.Ordering.{nat_cmp}
+use Rattle.std.specs.declared.cmp.Ordering.TheVariants.{Less}
+use Rattle.std.specs.Cmp.Lexicographic.{slice_cmp}
+use Rattle.ms_words.specs.declared.end.PathEnd.{PathEnd}
+use Rattle.ms_words.specs.Inputs.{Words}
+use Rattle.ms_trie.specs.declared.row.Outcome.TheVariants.{Path}
+use Rattle.ms_trie.specs.declared.row.PathRow.{PathRow}
+use Rattle.ms_machine.specs.Control.{Program}
+use Rattle.ms_machine.specs.Runs.{IsInputOf, IsLeast, Takes, end_of, string}
+use Rattle.ms_jvm.specs.Ends.{path_end_of}
+use Rattle.ms_session.specs.Paths.{input_with, least_of, report}
+
+-- LEAST INPUTS
+
+-- What `least_of` gives is the least input that takes the string, and it gives the least one where there is
+-- one. Where it gives none, no input of the entry takes the string.
+pub record LeastComesFirst (P : Program) (p : List ℕ) : Type 0 where
+  pub found : (words : List ℤ) → least_of P p ≡ Some words → IsLeast P p (input_with P words)
+  pub least : (x : Words) → IsLeast P p x → least_of P p ≡ Some x.words
+  pub absent : least_of P p ≡ None → (x : Words) → IsInputOf P x → Takes P x p → ⊥
+
+-- REPORTS
+
+-- The row is that of a path: its choices are all those of the least input that takes them, in a run to the
+-- depth, and its outcome is that input, and how that run ends.
+pub record IsPathRow (P : Program) (depth : ℕ) (row : PathRow) : Type 0 where
+  pub input : Words
+  pub end : PathEnd
+  pub least : IsLeast P row.choices input
+  pub choices : string P input depth ≡ row.choices
+  pub ends : path_end_of (end_of P input depth) ≡ Some end
+  pub outcome : row.outcome ≡ Path input end
+
+-- p comes before q in choice order: arm by arm, a prefix before what it begins
+abbrev pub Precedes : List ℕ → List ℕ → Type 0
+Precedes p q = slice_cmp nat_cmp p q ≡ Less
+
+-- the strings of the rows, in the order of the rows
+abbrev pub strings_of : List PathRow → List (List ℕ)
+strings_of rows = map (λ row. row.choices) rows
+
+-- The rows of a report are those of paths; the run of each input to the depth has one; and they stand in
+-- choice order, so each path has one row alone.
+pub record ListsEachPath (P : Program) (depth : ℕ) : Type 0 where
+  pub sound : All (IsPathRow P depth) (report P depth)
+  pub complete : (x : Words) → IsInputOf P x → Contains (strings_of (report P depth)) (string P x depth)
+  pub ordered : AllPairs Precedes (strings_of (report P depth))
