@@ -1,44 +1,19 @@
--- The laws determine what they are about: there is one list of rows, and one least input, with these properties.
-use Rattle.std.proofs.Common.{◌≡◌, ℕ, zero, suc, List, [], ◌∷◌, Option, Some, None, inl, inr, Less, refl, sym, ap, ◌∙◌, subst, arith}
-use Rattle.std.specs.Prelude.{ℤ}
-use Rattle.std.specs.Ordering.{nat_cmp, ordering_reverse}
-use Rattle.std.specs.Cmp.Lexicographic.{slice_cmp}
-use Rattle.std.specs.List.{All, AllByRecursion, AllPairs, Contains}
+-- Two lists of the paths to a depth are one.
+use Rattle.std.proofs.Common.{◌≡◌, ℕ, zero, suc, List, [], ◌∷◌, Option, Some, inl, inr, Less, refl, sym, ap, ◌∙◌, subst, arith}
+use Rattle.std.specs.Ordering.{ordering_reverse}
+use Rattle.ms_trie.specs.Choices.{choice_order}
+use Rattle.std.specs.List.{AllByRecursion, AllPairs, Contains}
 use Rattle.std.proofs.lemmas.List.Elements.{All-contains, recursion_from_All}
 use Rattle.std.proofs.lemmas.Cmp.{nat_list_cmp_total}
 use Rattle.ms_words.specs.declared.end.PathEnd.{PathEnd}
-use Rattle.ms_words.specs.Inputs.{Words}
 use Rattle.ms_trie.specs.declared.row.Outcome.TheVariants.{Path}
 use Rattle.ms_trie.specs.declared.row.PathRow.{PathRow}
 use Rattle.ms_machine.specs.Control.{Program}
-use Rattle.ms_machine.specs.Runs.{IsInputOf, IsLeast, Takes, end_of, string}
+use Rattle.ms_machine.specs.Runs.{IsLeast, end_of}
 use Rattle.ms_jvm.specs.Ends.{path_end_of}
 use Rattle.ms_machine.specs.Laws.{LeastIsUnique}
-use Rattle.ms_session.specs.Paths.{input_with, least_of}
-use Rattle.ms_session.specs.Laws.{IsPathRow, Precedes, strings_of}
+use Rattle.ms_session.specs.Laws.{IsListedOneWay, IsPathRow, ListsPaths, Precedes, strings_of}
 use Rattle.ms_session.proofs.Members.{Contains-from_in, IsIn, IsOrdered, from_map}
-use Rattle.ms_session.proofs.Least.{least_comes_first}
-
--- law 1, of any function in the place of `least_of`
-record IsLeastOf (P : Program) (p : List ℕ) (answer : Option (List ℤ)) : Type 0 where
-  found : (words : List ℤ) → answer ≡ Some words → IsLeast P p (input_with P words)
-  least : (x : Words) → IsLeast P p x → answer ≡ Some x.words
-  absent : answer ≡ None → (x : Words) → IsInputOf P x → Takes P x p → ⊥
-
--- an answer with these properties is that of `least_of`
-least_determined : (P : Program) (p : List ℕ) (answer : Option (List ℤ)) → IsLeastOf P p answer → answer ≡ least_of P p
-least_determined P p None is = by_least (least_of P p) refl
-  where
-    by_least : (o : Option (List ℤ)) → least_of P p ≡ o → None ≡ o
-    by_least None e = refl
-    by_least (Some words) e = let least : IsLeast P p (input_with P words) = (least_comes_first P p).found words e in absurd (is.absent refl (input_with P words) least.input least.takes)
-least_determined P p (Some words) is = sym ((least_comes_first P p).least (input_with P words) (is.found words refl))
-
--- law 2, of any rows in the place of the report
-pub record ListsPaths (P : Program) (depth : ℕ) (rows : List PathRow) : Type 0 where
-  sound : All (IsPathRow P depth) rows
-  complete : (x : Words) → IsInputOf P x → Contains (strings_of rows) (string P x depth)
-  ordered : AllPairs Precedes (strings_of rows)
 
 same_members : {X : Type 0} (R : X → X → Type 0) → ((x y : X) → R x y → R y x → ⊥) → (xs ys : List X) → IsOrdered R xs → IsOrdered R ys → ((x : X) → IsIn x xs → IsIn x ys) → ((y : X) → IsIn y ys → IsIn y xs) → xs ≡ ys
 same_members R never [] [] o o' to from = refl
@@ -86,7 +61,7 @@ in_from_Contains x (y ∷ xs) (zero, less, is) = inl is
 in_from_Contains x (y ∷ xs) (suc k, less, is) = inr (in_from_Contains x xs (k, omega arith, is))
 
 one_way : (p q : List ℕ) → Precedes p q → Precedes q p → ⊥
-one_way p q less more = let back : slice_cmp nat_cmp p q ≡ ordering_reverse (slice_cmp nat_cmp q p) = nat_list_cmp_total.antisymm p q in let bad : Less ≡ ordering_reverse Less = sym less ∙ back ∙ ap ordering_reverse more in cc
+one_way p q less more = let back : choice_order p q ≡ ordering_reverse (choice_order q p) = nat_list_cmp_total.antisymm p q in let bad : Less ≡ ordering_reverse Less = sym less ∙ back ∙ ap ordering_reverse more in cc
 
 row_determined : (P : Program) (depth : ℕ) → LeastIsUnique P → (a b : PathRow) → IsPathRow P depth a → IsPathRow P depth b → a.choices ≡ b.choices → a ≡ b
 row_determined P depth unique a b is is' same =
@@ -107,8 +82,8 @@ members P depth unique rows rows' is is' row here =
     let path' : IsPathRow P depth origin.x = All-contains (IsPathRow P depth) rows' origin.x is'.sound (Contains-from_in origin.x rows' origin.is) in
     subst (λ r. IsIn r rows') (row_determined P depth unique origin.x row path' path origin.makes) origin.is
 
-pub report_determined : (P : Program) (depth : ℕ) → LeastIsUnique P → (rows rows' : List PathRow) → ListsPaths P depth rows → ListsPaths P depth rows' → rows ≡ rows'
-report_determined P depth unique rows rows' is is' =
-    same_members (λ a b. Precedes a.choices b.choices) (λ a b. one_way a.choices b.choices) rows rows'
-    (ordered_rows rows (ordered_from_pairs Precedes (strings_of rows) is.ordered)) (ordered_rows rows' (ordered_from_pairs Precedes (strings_of rows') is'.ordered))
-    (members P depth unique rows rows' is is') (members P depth unique rows' rows is' is)
+pub listed_one_way : (P : Program) (depth : ℕ) → LeastIsUnique P → IsListedOneWay P depth
+listed_one_way P depth unique rows others is is' =
+    same_members (λ a b. Precedes a.choices b.choices) (λ a b. one_way a.choices b.choices) rows others
+    (ordered_rows rows (ordered_from_pairs Precedes (strings_of rows) is.ordered)) (ordered_rows others (ordered_from_pairs Precedes (strings_of others) is'.ordered))
+    (members P depth unique rows others is is') (members P depth unique others rows is' is)

@@ -12,5 +12,5 @@ pub mod Reports
 pub mod Writing
 pub mod Called
 pub mod Sessions
+pub mod Determined
 mod Example
-mod Determined

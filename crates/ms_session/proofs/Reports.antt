@@ -24,7 +24,7 @@ use Rattle.ms_jvm.specs.Ends.{path_end_of}
 use Rattle.ms_jvm.specs.Programs.{program_of}
 use Rattle.ms_session.specs.Strings.{below, same}
 use Rattle.ms_session.specs.Paths.{arms_after, arms_in, arms_of_run, input_with, inputs_of, is_path, least_of, report, row_of, row_of_least, row_with, tree, tree_from}
-use Rattle.ms_session.specs.Laws.{IsPathRow, ListsEachPath, Precedes, strings_of}
+use Rattle.ms_session.specs.Laws.{IsPathRow, ListsPaths, Precedes, strings_of}
 use Rattle.ms_session.proofs.Depths.{string_behind, string_length, string_take}
 use Rattle.ms_session.proofs.Members.{All-from_in, AllPairs-from_ordered, Contains-from_in, IsIn, IsOrdered, Origin, all_in, from_any, from_filter, from_filter_map, from_flat, in_any, in_below, in_filter, in_flat, ordered_below, ordered_filter, ordered_flat}
 use Rattle.ms_session.proofs.Listing.{are_whole, inputs_are}
@@ -282,7 +282,7 @@ rows_ordered P depth =
     subst (IsOrdered Precedes) (sym (strings_are P depth paths))
     (ordered_filter Precedes (λ q. is_some (row_of P depth q)) paths (ordered_filter Precedes (is_path P depth) (tree P depth) (tree_ordered P depth [])))
 
-pub lists_each_path : (P : Program) (depth : ℕ) → IsReportable P depth → ListsEachPath P depth
+pub lists_each_path : (P : Program) (depth : ℕ) → IsReportable P depth → ListsPaths P depth (report P depth)
 lists_each_path P depth able = record {
   sound = All-from_in (IsPathRow P depth) (report P depth) (path_row P depth able);
   complete = path_listed P depth able;

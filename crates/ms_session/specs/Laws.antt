@@ -1,17 +1,16 @@
--- Laws of least inputs and of reports: what the lists of inputs and of strings give, in the machine's words for
--- inputs and runs.
+-- Laws of least inputs and of reports: what the first of all inputs and the walk through the tree of strings give, in the
+-- machine's words for inputs and runs.
 use Rattle.std.specs.Prelude.{◌≡◌, ℕ, ℤ, List, map, All, AllPairs, Contains, Some, None}
-use Rattle.std.specs.Ordering.{nat_cmp}
 use Rattle.std.specs.declared.cmp.Ordering.TheVariants.{Less}
-use Rattle.std.specs.Cmp.Lexicographic.{slice_cmp}
 use Rattle.ms_words.specs.declared.end.PathEnd.{PathEnd}
 use Rattle.ms_words.specs.Inputs.{Words}
+use Rattle.ms_trie.specs.Choices.{choice_order}
 use Rattle.ms_trie.specs.declared.row.Outcome.TheVariants.{Path}
 use Rattle.ms_trie.specs.declared.row.PathRow.{PathRow}
 use Rattle.ms_machine.specs.Control.{Program}
 use Rattle.ms_machine.specs.Runs.{IsInputOf, IsLeast, Takes, end_of, string}
 use Rattle.ms_jvm.specs.Ends.{path_end_of}
-use Rattle.ms_session.specs.Paths.{input_with, least_of, report}
+use Rattle.ms_session.specs.Paths.{input_with, least_of}
 
 -- LEAST INPUTS
 
@@ -34,17 +33,21 @@ pub record IsPathRow (P : Program) (depth : ℕ) (row : PathRow) : Type 0 where
   pub ends : path_end_of (end_of P input depth) ≡ Some end
   pub outcome : row.outcome ≡ Path input end
 
--- p comes before q in choice order: arm by arm, a prefix before what it begins
+-- p comes before q in choice order
 abbrev pub Precedes : List ℕ → List ℕ → Type 0
-Precedes p q = slice_cmp nat_cmp p q ≡ Less
+Precedes p q = choice_order p q ≡ Less
 
 -- the strings of the rows, in the order of the rows
 abbrev pub strings_of : List PathRow → List (List ℕ)
 strings_of rows = map (λ row. row.choices) rows
 
--- The rows of a report are those of paths; the run of each input to the depth has one; and they stand in
--- choice order, so each path has one row alone.
-pub record ListsEachPath (P : Program) (depth : ℕ) : Type 0 where
-  pub sound : All (IsPathRow P depth) (report P depth)
-  pub complete : (x : Words) → IsInputOf P x → Contains (strings_of (report P depth)) (string P x depth)
-  pub ordered : AllPairs Precedes (strings_of (report P depth))
+-- These rows list the paths to a depth: each is that of a path; the string of each input's run has one; and they stand in
+-- choice order, so that each string has one row alone.
+pub record ListsPaths (P : Program) (depth : ℕ) (rows : List PathRow) : Type 0 where
+  pub sound : All (IsPathRow P depth) rows
+  pub complete : (x : Words) → IsInputOf P x → Contains (strings_of rows) (string P x depth)
+  pub ordered : AllPairs Precedes (strings_of rows)
+
+-- there is one such list at most
+abbrev pub IsListedOneWay : Program → ℕ → Type 0
+IsListedOneWay P depth = (rows others : List PathRow) → ListsPaths P depth rows → ListsPaths P depth others → rows ≡ others

@@ -10,6 +10,7 @@ use ms_outside::{
     Fetch, FolderShelf, Shelf, Shelved, StdSink, StdSource, SureShelf, SureSink, SureSource,
 };
 use ms_pool::Short;
+use ms_session::{least_inputs_come_first, paths_are_listed_one_way, reports_list_each_path};
 use ms_words::{Name, thrown_named};
 use std::alloc::{AllocError, Global};
 use std::test::Fail;
@@ -74,6 +75,9 @@ fn throwables_have_their_parents(rt: HostRuntime) {
 fn laws_do_nothing(_rt: HostRuntime) {
     thin_files_are_read();
     thin_methods_end();
+    least_inputs_come_first();
+    reports_list_each_path();
+    paths_are_listed_one_way();
 }
 
 #[test]
