@@ -1,5 +1,5 @@
 -- Which command a line is, or else the refusal that is the reply to it.
-use Rattle.std.specs.Prelude.{◌≡◌, ℕ, ◌≤◌, List, [], ◌∷◌, ◌&&◌, nat_le, Option, Some, None, Result, Ok, Err, ℤ, codes, if◌then◌else◌}
+use Rattle.std.specs.Prelude.{◌≡◌, ◌≢◌, ℕ, ◌≤◌, List, [], ◌∷◌, ◌&&◌, nat_le, Option, Some, None, Result, Ok, Err, ℤ, codes, if◌then◌else◌}
 use Rattle.std.specs.List.{list_all}
 use Rattle.std.specs.Str.{bytes_eq}
 use Rattle.ms_words.specs.Inputs.{is_of}
@@ -80,12 +80,12 @@ abbrev pub command_of : List ℕ → Result Command Reply
 command_of line = if is_plain line then command_of_tokens (tokens line) else Err NoLine
 
 -- `Line`, `Command` and `Range` come where the reply to the line is NoLine (1), NoCommand (2) and Range (13); want of
--- memory may come for any line
+-- memory may come for every other line than those of the first sort
 abbrev pub Refuses : CommandRefusal → Result Command Reply → Type 0
 Refuses refusals.Line found = found ≡ Err NoLine
 Refuses refusals.Command found = found ≡ Err NoCommand
 Refuses refusals.Range found = found ≡ Err Range
-Refuses refusals.NoMemory found = Unit {0}
+Refuses refusals.NoMemory found = found ≢ Err NoLine
 
 -- the number of a command is within its range
 abbrev pub IsInRange : Command → Type 0

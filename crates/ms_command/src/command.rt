@@ -1,4 +1,4 @@
-ghost use Rattle.std.specs.Prelude.{◌≡◌, IfOk, map, MatchResult, Some, None, Ok, if◌then◌else◌};
+ghost use Rattle.std.specs.Prelude.{◌≡◌, ◌≢◌, IfErr, IfOk, map, MatchResult, Some, None, Ok, if◌then◌else◌};
 ghost use Rattle.std.specs.List.{list_all};
 ghost use Rattle.std.specs.Option.{option_map};
 ghost use Rattle.ms_words.specs.Inputs.{is_of};
@@ -85,7 +85,8 @@ impl From<NoMemory> for CommandRefusal {
 /// The command that a line is. The line stands without its line feed, and without the carriage
 /// return before that. It is refused as `Line` exactly where it has more than 4,096 bytes or one
 /// outside 0x20 to 0x7E; else as `Command` exactly where no form of a command fits; else as `Range`
-/// exactly where a number is outside its range. `NoMemory` may come for any line.
+/// exactly where a number is outside its range. `NoMemory` may come for every line but those
+/// that are refused as `Line`.
 pub fn read_command(alloc: Global, line: &[u8]) -> Result<Command, CommandRefusal>
     ensures command { MatchResult result (λ command. command_of line.now ≡ Ok command) (λ refusal. Refuses refusal (command_of line.now)) }
     ensures range { IfOk result IsInRange }
@@ -168,7 +169,8 @@ fn entry(alloc: Global, arguments: &[&[u8]]) -> Result<Command, CommandRefusal>
 }
 
 fn depth(arguments: &[&[u8]]) -> Result<Command, CommandRefusal>
-    ensures { MatchResult result (λ command. depth_of (map (λ token. token.now) arguments.now) ≡ Ok command) (λ refusal. Refuses refusal (depth_of (map (λ token. token.now) arguments.now))) }
+    ensures command { MatchResult result (λ command. depth_of (map (λ token. token.now) arguments.now) ≡ Ok command) (λ refusal. Refuses refusal (depth_of (map (λ token. token.now) arguments.now))) }
+    ensures memory { IfErr result (λ refusal. refusal ≢ CommandRefusal.NoMemory) }
 {
     let [depth] = arguments else {
         return Err(CommandRefusal::Command);
@@ -181,7 +183,8 @@ fn depth(arguments: &[&[u8]]) -> Result<Command, CommandRefusal>
 }
 
 fn explore(arguments: &[&[u8]]) -> Result<Command, CommandRefusal>
-    ensures { MatchResult result (λ command. explore_of (map (λ token. token.now) arguments.now) ≡ Ok command) (λ refusal. Refuses refusal (explore_of (map (λ token. token.now) arguments.now))) }
+    ensures command { MatchResult result (λ command. explore_of (map (λ token. token.now) arguments.now) ≡ Ok command) (λ refusal. Refuses refusal (explore_of (map (λ token. token.now) arguments.now))) }
+    ensures memory { IfErr result (λ refusal. refusal ≢ CommandRefusal.NoMemory) }
 {
     let [most] = arguments else {
         return Err(CommandRefusal::Command);
@@ -196,7 +199,8 @@ fn explore(arguments: &[&[u8]]) -> Result<Command, CommandRefusal>
 }
 
 fn report(arguments: &[&[u8]]) -> Result<Command, CommandRefusal>
-    ensures { MatchResult result (λ command. alone Command.Report (map (λ token. token.now) arguments.now) ≡ Ok command) (λ refusal. Refuses refusal (alone Command.Report (map (λ token. token.now) arguments.now))) }
+    ensures command { MatchResult result (λ command. alone Command.Report (map (λ token. token.now) arguments.now) ≡ Ok command) (λ refusal. Refuses refusal (alone Command.Report (map (λ token. token.now) arguments.now))) }
+    ensures memory { IfErr result (λ refusal. refusal ≢ CommandRefusal.NoMemory) }
 {
     if !arguments.is_empty() {
         return Err(CommandRefusal::Command);
@@ -205,7 +209,8 @@ fn report(arguments: &[&[u8]]) -> Result<Command, CommandRefusal>
 }
 
 fn quit(arguments: &[&[u8]]) -> Result<Command, CommandRefusal>
-    ensures { MatchResult result (λ command. alone Command.Quit (map (λ token. token.now) arguments.now) ≡ Ok command) (λ refusal. Refuses refusal (alone Command.Quit (map (λ token. token.now) arguments.now))) }
+    ensures command { MatchResult result (λ command. alone Command.Quit (map (λ token. token.now) arguments.now) ≡ Ok command) (λ refusal. Refuses refusal (alone Command.Quit (map (λ token. token.now) arguments.now))) }
+    ensures memory { IfErr result (λ refusal. refusal ≢ CommandRefusal.NoMemory) }
 {
     if !arguments.is_empty() {
         return Err(CommandRefusal::Command);

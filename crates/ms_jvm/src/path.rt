@@ -1,5 +1,4 @@
-ghost use Rattle.std.specs.Prelude.{◌≡◌, ◌∷◌, ◌++◌, ◌<◌, ◌≤◌, [], cond, length, IfOk, MatchOption, Some};
-ghost use Rattle.ms_words.specs.Relations.{related};
+ghost use Rattle.std.specs.Prelude.{◌≡◌, ◌∷◌, ◌<◌, ◌≤◌, [], cond, length, IfOk, OnErr, Some};
 ghost use Rattle.ms_classfile.specs.Found.{view};
 ghost use Rattle.ms_classfile.specs.ThinFile.{IsThinMethod};
 ghost use Rattle.ms_machine.specs.Effects.{relation};
@@ -83,7 +82,8 @@ fn choose(
 ) -> Result<Option<bool>, NoMemory>
     requires few { length choices.old ≤ depth }
     requires depth { depth ≤ 256 }
-    ensures { IfOk result (Chosen (comparison_of condition) left right depth choices.old choices.new) }
+    ensures chosen { IfOk result (Chosen (comparison_of condition) left right depth choices.old choices.new) }
+    ensures err { OnErr result (choices.new ≡ choices.old) }
 {
     let taken = holds(relation_of(condition), left.word, right.word);
     if left.plain && right.plain {

@@ -1,7 +1,7 @@
-ghost use Rattle.std.specs.Prelude.{◌≡◌, ◌≢◌, ◌++◌, [], IfOk, IfErr, IfSome, OnOk, IsUtf8, Option, List, None, Some};
+ghost use Rattle.std.specs.Prelude.{◌≡◌, ◌≢◌, ◌++◌, [], IfOk, IfErr, IfSome, OnOk, IsUtf8, None, Some};
 ghost use Rattle.std.specs.IoError.{error_kind};
 ghost use Rattle.ms_outside.specs.Histories.{ShelfHistory};
-ghost use Rattle.ms_outside.specs.Shelves.{File, FetchHasCauses, IsWithinLimit, answer_of_contents, answered, asked_with};
+ghost use Rattle.ms_outside.specs.Shelves.{FetchHasCauses, IsWithinLimit, answer_of_contents, answered, asked_with};
 ghost use Rattle.ms_outside.specs.Memory.{counts_after};
 ghost use Rattle.ms_outside.specs.Folders.{open_answer, read_answer};
 

@@ -1,4 +1,4 @@
-ghost use Rattle.std.specs.Prelude.{◌≡◌, ℕ, List, [], ◌<◌, ◌≤◌, Some, length, is_ok, IfOk, IsErr, IsFalse, IsOk, IsTrue};
+ghost use Rattle.std.specs.Prelude.{◌≡◌, [], ◌<◌, ◌≤◌, Some, length, is_ok, IfOk, IsErr, IsFalse, IsOk, IsTrue};
 ghost use Rattle.ms_outside.specs.Counts.{HasCause};
 ghost use Rattle.ms_outside.specs.Sinks.{WriteTakes};
 ghost use Rattle.ms_outside.specs.Memory.{SinkState, is_listed, raised, sink_after};

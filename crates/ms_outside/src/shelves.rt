@@ -1,5 +1,5 @@
-ghost use Rattle.std.specs.Prelude.{◌≡◌, ◌≢◌, ℕ, IfSome, List, Some, option_copied, find, bytes_eq};
-ghost use Rattle.ms_outside.specs.Shelves.{File, answer_of, answered, contents_of, IsWithinLimit};
+ghost use Rattle.std.specs.Prelude.{◌≡◌, ◌≢◌, IfSome, Some, option_copied, find, bytes_eq};
+ghost use Rattle.ms_outside.specs.Shelves.{answer_of, answered, IsWithinLimit};
 ghost use Rattle.ms_outside.specs.Memory.{HasBytes};
 
 use crate::shelf::MOST_BYTES;

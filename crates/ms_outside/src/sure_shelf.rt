@@ -1,5 +1,5 @@
-ghost use Rattle.std.specs.Prelude.{◌≡◌, ◌≢◌, ◌++◌, ℕ, List, [], Option, Some, IfSome};
-ghost use Rattle.ms_outside.specs.Shelves.{File, FetchHasCauses, IsWithinLimit, answer_of, answered, asked_with};
+ghost use Rattle.std.specs.Prelude.{◌≡◌, ◌≢◌, ◌++◌, [], Some, IfSome};
+ghost use Rattle.ms_outside.specs.Shelves.{FetchHasCauses, IsWithinLimit, answer_of, answered, asked_with};
 ghost use Rattle.ms_outside.specs.Memory.{SureShelfState, HasBytes, sure_counts, sure_shelf_after};
 
 use crate::shelves::fetch_from;

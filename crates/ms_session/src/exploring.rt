@@ -1,7 +1,7 @@
 ghost use Rattle.std.specs.Prelude.{◌≡◌, ◌∷◌, ◌++◌, [], map, IfOk, OnOk, Some};
 ghost use Rattle.ms_session.specs.Growing.{node_view};
 ghost use Rattle.ms_session.specs.Walking as walking;
-ghost use Rattle.ms_session.specs.Walking.{walk, rows_of, row_at};
+ghost use Rattle.ms_session.specs.Walking.{walk, rows_of};
 
 use crate::known::Known;
 use crate::runs::Run;

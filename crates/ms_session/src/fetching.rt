@@ -1,4 +1,4 @@
-ghost use Rattle.std.specs.Prelude.{◌≡◌, MatchResult};
+ghost use Rattle.std.specs.Prelude.{MatchResult};
 ghost use Rattle.ms_session.specs.Outside.{shelf_side};
 ghost use Rattle.ms_session.specs.Sessions.{FetchStops, IsGiven, answer_in};
 

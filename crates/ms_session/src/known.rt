@@ -1,4 +1,4 @@
-ghost use Rattle.std.specs.Prelude.{◌≡◌, ◌≤◌, ◌<◌, length, map, not, ◌&&◌, ◌||◌, is_some, IfOk, OnOk};
+ghost use Rattle.std.specs.Prelude.{◌≡◌, ◌<◌, map, ◌&&◌, ◌||◌, is_some, OnOk};
 ghost use Rattle.ms_session.specs.Growing.{node_view};
 ghost use Rattle.ms_session.specs.Known as known;
 ghost use Rattle.ms_session.specs.Walking as walking;

@@ -1,8 +1,6 @@
 ghost use Rattle.std.specs.Prelude.{◌≡◌, ◌≤◌, MatchResult, length};
 ghost use Rattle.std.specs.Io.KnownBytes.{Appends};
 ghost use Rattle.ms_command.specs.Texts.{reply_text};
-ghost use Rattle.ms_report.specs.Rows.{rows_text};
-ghost use Rattle.ms_report.specs.Stops.{totals_of};
 ghost use Rattle.ms_session.specs.Sessions.{IsShort, output_text};
 ghost use Rattle.ms_session.specs.Steps.{reported};
 ghost use Rattle.ms_session.specs.Writing.{WriteStops};

@@ -1,8 +1,7 @@
-ghost use Rattle.std.specs.Prelude.{◌≡◌, ◌+◌, ◌∷◌, ◌++◌, ◌≤◌, [], length, map, slice_get, IfOk, OnOk};
+ghost use Rattle.std.specs.Prelude.{◌≡◌, ◌+◌, ◌∷◌, ◌++◌, ◌≤◌, [], length, map, IfOk, OnOk};
 ghost use Rattle.std.specs.Option.{option_map};
 ghost use Rattle.ms_session.specs.Growing as growing;
 ghost use Rattle.ms_session.specs.Growing.{grown_from, node_view, taking};
-ghost use Rattle.ms_session.specs.Paths.{first_of};
 
 use crate::runs::Run;
 use ms_trie::ChoiceString;

@@ -1,13 +1,13 @@
 //! What the adapters ask of a reader and a writer, which no clause says: that each reply is flushed, and
 //! that what failed isn't tried again.
 
-use crate::worked::ADDS;
 use ms_memoise::{Status, memoise};
 use ms_outside::{Shelved, StdSink, StdSource, SureShelf};
 use std::alloc::{AllocError, Global};
 use std::io;
 use std::io::{ErrorKind, Read, Write};
 use std::test::Fail;
+use tests_devices::ADDS;
 
 /// Two commands, each with a reply.
 static COMMANDS: &[u8] = b"once T.class f (II)I 1 2\ntwice\n";

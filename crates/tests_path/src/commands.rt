@@ -1,8 +1,8 @@
 //! Command lines and the replies to them, over a shelf with the worked file alone.
 
 use crate::running::check;
-use crate::worked::ADDS;
 use std::test::Fail;
+use tests_devices::ADDS;
 
 const NO_COMMAND: &str = "refused 2 Command\n";
 

@@ -1,11 +1,12 @@
 //! Runs whose devices fail, or move one byte at a time, and runs past the limit of bytes.
 
-use crate::running::{Devices, SOUND, check_run};
+use crate::running::check_run;
 use ms_memoise::{MOST_INPUT, Status, memoise};
 use ms_outside::{MemorySink, Source, SureShelf, SureSource};
 use std::alloc::AllocError;
 use std::process::Abort;
 use std::test::Fail;
+use tests_devices::{Devices, SOUND};
 
 /// Three lines, the last of them without an end, and their replies. The lines have 25, 26 and 20
 /// bytes, and the replies 13, 13 and 25.

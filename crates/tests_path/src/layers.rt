@@ -1,7 +1,6 @@
 //! Public calls that the runs of the program don't reach, devices that don't fail, adapters, and
 //! printed texts.
 
-use crate::worked::ADDS;
 use ms_classfile::thin_files_are_read;
 use ms_command::{CommandRefusal, Reply, write_reply};
 use ms_jvm::thin_methods_end;
@@ -14,6 +13,7 @@ use ms_session::{least_inputs_come_first, paths_are_listed_one_way, reports_list
 use ms_words::{Name, thrown_named};
 use std::alloc::{AllocError, Global};
 use std::test::Fail;
+use tests_devices::ADDS;
 
 /// The throwables that the machine knows, each with its parent.
 static TREE: [(&str, &str); 12] = [

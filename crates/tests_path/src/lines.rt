@@ -1,9 +1,9 @@
 //! Lines: where they end, and how long they may be.
 
 use crate::running::check;
-use crate::worked::ADDS;
 use std::alloc::{AllocError, Global};
 use std::test::Fail;
+use tests_devices::ADDS;
 
 /// The replies to the sum of 1 and 2, to a line that is too long or has a byte that isn't printable, and
 /// to a line that is no command.

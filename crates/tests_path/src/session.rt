@@ -2,7 +2,6 @@
 //! expected rows and numbers of asks were worked out by hand, from the arms that each input takes.
 
 use crate::running::check;
-use crate::worked::{ADDS, changed, lengthened, thin};
 use ms_command::end_text;
 use ms_outside::MemorySink;
 use ms_report::{ReportStop, Totals, write_report};
@@ -11,6 +10,7 @@ use ms_trie::{ChoiceString, Outcome, PathRow};
 use ms_words::{Ended, Input, Kinds, PathEnd};
 use std::alloc::{AllocError, Global};
 use std::test::Fail;
+use tests_devices::{ADDS, changed, lengthened, thin};
 
 const NO_COMMAND: &str = "refused 2 Command\n";
 

@@ -1,4 +1,3 @@
-ghost use Rattle.std.specs.Prelude.{◌≡◌};
 ghost use Rattle.ms_classfile.specs.ClassFile.{attribute, counted, passed};
 ghost use Rattle.ms_classfile.specs.ClassFinds.{Finds, short_of};
 ghost use Rattle.ms_pool.specs.Formats.{repeated};

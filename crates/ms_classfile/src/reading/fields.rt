@@ -1,5 +1,5 @@
 ghost use Rattle.std.specs.Prelude.{◌≡◌, ◌&&◌, [], None, OnOk, map};
-ghost use Rattle.ms_classfile.specs.ClassFile.{constant_value, counted, field, field_attribute, indexed, is_constant_value, field_key, is_int_kind, is_static, short};
+ghost use Rattle.ms_classfile.specs.ClassFile.{constant_value, counted, field, field_attribute, is_constant_value, field_key, is_int_kind, is_static, short};
 ghost use Rattle.ms_classfile.specs.ClassFinds.{Finds, Leads};
 ghost use Rattle.ms_classfile.specs.ClassViews.{field_view};
 ghost use Rattle.ms_classfile.specs.Seen.{AreKeysOf, AreNumbers, field_of, head_view};

@@ -1,4 +1,4 @@
-ghost use Rattle.std.specs.Prelude.{◌≡◌, ◌∷◌, ◌++◌, [], IfOk, IsOkAnd, OnOk, not, if◌then◌else◌, slice_index};
+ghost use Rattle.std.specs.Prelude.{◌≡◌, ◌∷◌, ◌++◌, [], IfOk, OnOk, not, if◌then◌else◌, slice_index};
 ghost use Rattle.ms_classfile.specs.Seen.{AreNumbers, IsPlaced, has_key};
 
 use super::names::Head;

@@ -1,4 +1,4 @@
-ghost use Rattle.std.specs.Prelude.{◌≡◌, map};
+ghost use Rattle.std.specs.Prelude.{map};
 ghost use Rattle.ms_classfile.specs.Reading as reading;
 ghost use Rattle.ms_classfile.specs.Found.{Finds, LeadsBehind, entry_view};
 

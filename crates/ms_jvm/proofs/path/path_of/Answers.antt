@@ -37,7 +37,7 @@ returns-in-Return-clause-end c =
 
 cut : (c : goal.After-drop-stack-inside-in_default) → IsRun (view c.args.method.now) c.args.x.now c.args.depth c.choose.new.choices Cut
 cut c =
-    let due = rw c.in_default.is at c.in_ok-chosen-in-Branch.ensures in
+    let due = rw c.in_default.is at c.in_ok-chosen-in-Branch.ensures.chosen in
     rw due.2 (run_cut (view c.args.method.now) c.args.x.now c.args.depth c.first-instruction.result.0 c.first-instruction.result.1.now c.loop-choices.stack c.execute.new.stack c.loop-choices.choices
     (comparison_of c.in-Branch.condition) c.in-Branch.left c.in-Branch.right
     (rw c.first-instruction.ensures at c.loop-choices.invariant) (rw c.in-Branch.is at c.in_ok-turn.ensures.effect) due.0 due.1)
@@ -62,4 +62,4 @@ loop-choices-preserved c =
     (follows_branch (view c.args.method.now) c.args.x.now c.args.depth c.in-Branch.far c.first-instruction.result.0 c.first-instruction.result.1.now c.loop-choices.stack c.execute.new.stack c.loop-choices.choices c.choose.new.choices
     (comparison_of c.in-Branch.condition) c.in-Branch.left c.in-Branch.right c.in-Some.taken
     (rw c.first-instruction.ensures at c.loop-choices.invariant) (rw c.in-Branch.is at c.in_ok-turn.ensures.effect) (rw c.in-Branch.is at c.in_ok-turn.ensures.leads) c.in_ok-turn.ensures.depth
-    (rw c.in-Some.is at c.in_ok-chosen-in-Branch.ensures))
+    (rw c.in-Some.is at c.in_ok-chosen-in-Branch.ensures.chosen))

@@ -3,7 +3,6 @@
 //! where it falls through and 1 where it branches.
 
 use crate::running::check;
-use crate::worked::{line_for, thin};
 use ms_classfile::read_thin;
 use ms_command::end_text;
 use ms_jvm::{path_of, run};
@@ -11,6 +10,7 @@ use ms_words::Input;
 use std::alloc::{AllocError, Global};
 use std::process::Abort;
 use std::test::Fail;
+use tests_devices::{line_for, thin};
 
 const NOT_BUILT: &str = "refused 90 NotBuilt\n";
 

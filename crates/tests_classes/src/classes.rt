@@ -1,9 +1,9 @@
 //! Class files: which of them are thin, and what their code does.
 
 use crate::running::check;
-use crate::worked::{ADDS, Change, changed, lengthened, line_for, thin};
 use std::alloc::{AllocError, Global};
 use std::test::Fail;
+use tests_devices::{ADDS, Change, changed, lengthened, line_for, thin};
 
 const NOT_BUILT: &str = "refused 90 NotBuilt\n";
 
