@@ -1,5 +1,5 @@
 -- Lines that are done one after another.
-use Rattle.std.proofs.Common.{◌≡◌, ℕ, zero, suc, ◌+◌, ◌<◌, ◌≤◌, List, [], ◌∷◌, ◌++◌, length, take, refl, sym, ap, ◌∙◌, subst, arith, Some, slice_get, append_assoc, length-append, suc-add}
+use Rattle.std.proofs.Common.{◌≡◌, ℕ, suc, ◌+◌, ◌<◌, ◌≤◌, List, [], ◌∷◌, ◌++◌, length, take, refl, sym, ap, ◌∙◌, subst, arith, slice_get, append_assoc, length-append}
 use Rattle.std.specs.Io.KnownBytes.{Appends}
 use Rattle.std.proofs.lemmas.List.{take-append-le, length-take}
 use Rattle.std.proofs.Math.Seq.{take-append-add}
@@ -11,6 +11,7 @@ use Rattle.ms_session.specs.Outside.{Calm, Passes, ShelfSide, SinkSide}
 use Rattle.ms_session.specs.States.{State}
 use Rattle.ms_memoise.specs.Events.{AreAnswered, Event, lines_of, next_of, state_after, text_after}
 use Rattle.ms_memoise.specs.Feeding.{Broke, Did, Stops}
+use Rattle.ms_memoise.proofs.Asking.{asks_before, asks_behind, asks_none, get_before, get_behind}
 use Rattle.ms_memoise.proofs.Spans.{passes_later, rose_wider, shelf_same}
 
 pub did_nothing : (x : State) (a : ShelfSide) (s : SinkSide) → Did [] x x a a s s
@@ -68,6 +69,7 @@ broke_here all x a s = record {
   at = a;
   begun = λ h. absurd (omega arith);
   named = tt;
+  next = asks_none a a _ refl;
   answered = refl;
   rest = shelf_same a;
   wrote = Appends-nil s.taken;
@@ -79,16 +81,6 @@ broke_here all x a s = record {
 pub length_lines : (events : List Event) → length (lines_of events) ≡ length events
 length_lines [] = refl
 length_lines (event ∷ events) = ap suc (length_lines events)
-
--- what is at a place of a list is there whatever follows
-pub get_before : (xs ys : List (List ℕ)) (n : ℕ) (line : List ℕ) → slice_get xs n ≡ Some line → slice_get (xs ++ ys) n ≡ Some line
-get_before [] ys n line is = cc
-get_before (x ∷ xs) ys zero line is = is
-get_before (x ∷ xs) ys (suc n) line is = get_before xs ys n line is
-
-get_behind : (xs ys : List (List ℕ)) (n : ℕ) → slice_get (xs ++ ys) (length xs + n) ≡ slice_get ys n
-get_behind [] ys n = ap (slice_get ys) (omega arith)
-get_behind (x ∷ xs) ys n = rw suc-add (get_behind xs ys n)
 
 pub named_before : (status : Status) (xs ys : List (List ℕ)) (n : ℕ) → IsNamedAt status xs n → IsNamedAt status (xs ++ ys) n
 named_before Done xs ys n p = tt
@@ -130,6 +122,7 @@ broke_before status xs ys x a b s t p = record {
   at = p.at;
   begun = λ h. let begun = p.begun h in record { event = begun.event; line = get_before xs ys _ _ begun.line; answered = begun.answered; some = begun.some; begins = begun.begins };
   named = named_before status xs ys _ p.named;
+  next = asks_before p.at b xs ys _ p.next;
   answered = p.answered;
   rest = p.rest;
   wrote = p.wrote;
@@ -156,6 +149,7 @@ did_broke status xs ys x y a b c s t u p q =
         begins = ap (λ z. take (length q.part) (next_of z begun.event).text) (sym (state_from x y p.events q.events p.state_is)) ∙ begun.begins;
       };
       named = named_behind status xs ys (length q.events) _ count q.named;
+      next = asks_behind q.at c xs ys (length q.events) _ count q.next;
       answered = answered_append a b q.at p.events q.events p.answered q.answered;
       rest = q.rest;
       wrote = subst (Appends s.taken u.taken) (sym (append_assoc (text_after x p.events) (text_after y q.events) q.part) ∙ ap (λ l. l ++ q.part) (text_from x y p.events q.events p.state_is))

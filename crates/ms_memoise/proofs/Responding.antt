@@ -11,7 +11,7 @@ use Rattle.ms_session.specs.declared.stop.Stop.TheVariants as stops
 use Rattle.ms_session.specs.Commands.{AsksAt, IsPartFor, IsReached, StopsFor}
 use Rattle.ms_session.proofs.Writing.{reply_has_text}
 use Rattle.ms_memoise.specs.Conversations.{IsNamedAt, IsReachedAt}
-use Rattle.ms_session.specs.Outside.{AreAnswers, ShelfPasses, ShelfSide, SinkSide}
+use Rattle.ms_session.specs.Outside.{AreAnswers, AsksSome, ShelfPasses, ShelfSide, SinkSide}
 use Rattle.ms_session.specs.Steps.{names_in}
 use Rattle.ms_session.specs.States.{State}
 use Rattle.ms_memoise.specs.declared.status.Status.{Status}
@@ -19,6 +19,7 @@ use Rattle.ms_memoise.specs.declared.status.Status.TheVariants.{Done, Usage, Rea
 use Rattle.ms_memoise.specs.declared.flow.Flow.{Flow}
 use Rattle.ms_memoise.specs.Events.{IsAnswered, names_of, next_for, quits}
 use Rattle.ms_memoise.specs.Feeding.{Broke, Halted, Hushed, Hushes, IsFlow, IsPartAt, Ran, Responded, Said, Stops, status_of}
+use Rattle.ms_memoise.proofs.Asking.{asks_none}
 use Rattle.ms_memoise.proofs.Spans.{shelf_same}
 
 -- A LINE THAT IS A COMMAND
@@ -82,6 +83,7 @@ halted status line command x a b s t is h = record {
     begins = ap (λ c. take (length h.stopped.part) (next_for x c begins.answers).text) is ∙ begins.first;
   };
   named = subst (λ status. IsNamedAt status (line ∷ []) 0) (sym h.is) (names_at h.stop line command is h.stopped.asked);
+  next = subst (λ c. AsksSome a b (names_of c)) (sym is) h.stopped.some;
   answered = refl;
   rest = h.stopped.passes.on_shelf;
   wrote = h.stopped.wrote;
@@ -157,6 +159,7 @@ hushed status line reply x a s t is h =
         begins = ap (λ c. take (length part) (next_for x c []).text) is ∙ take_of_take h.many (reply_text reply);
       };
       named = (hushes status a s t part h.why).2 (line ∷ []);
+      next = asks_none a a _ refl;
       answered = refl;
       rest = shelf_same a;
       wrote = h.wrote;

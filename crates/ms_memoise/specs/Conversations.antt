@@ -1,9 +1,9 @@
 -- Conversations: what the program has read, done and written when it ends.
-use Rattle.std.specs.Prelude.{◌≡◌, ◌≢◌, ℕ, ◌+◌, ◌<◌, ◌≤◌, ◌⊎◌, List, [], ◌++◌, length, take, Bool, IsFalse, IsTrue, Option, Some, IfSome, slice_get}
+use Rattle.std.specs.Prelude.{◌≡◌, ◌≢◌, ℕ, ◌+◌, ◌<◌, ◌≤◌, ◌⊎◌, List, [], ◌++◌, length, take, Bool, IsFalse, IsTrue, Option, Some, None, IfSome, slice_get}
 use Rattle.std.specs.Str.Lines.{lines}
 use Rattle.std.specs.Io.KnownBytes.{Appends, Consumes, IsAtEnd}
 use Rattle.ms_outside.specs.Counts.{CountsGrow, Rose}
-use Rattle.ms_session.specs.Outside.{ShelfPasses, ShelfSide, SinkSide, sink_side}
+use Rattle.ms_session.specs.Outside.{AsksSome, ShelfPasses, ShelfSide, SinkSide, sink_side}
 use Rattle.ms_session.specs.States.{State, new_state}
 use Rattle.ms_memoise.specs.declared.status.Status.{Status}
 use Rattle.ms_memoise.specs.declared.status.Status.TheVariants.{Done, Usage, ReadFault, WriteFault, NoMemory, ShelfFault, TooMuchInput}
@@ -105,12 +105,22 @@ IsNamedAt NoMemory all done = Unit {0}
 IsNamedAt ShelfFault all done = NamesNext all done
 IsNamedAt TooMuchInput all done = Unit {0}
 
+-- the names that a line asks for, where there is one
+abbrev pub names_of_next : Option (List ℕ) → List (List ℕ)
+names_of_next None = []
+names_of_next (Some line) = asked line
+
+-- the shelf was asked for some first ones of the names in the line after those that were done, and for no others
+abbrev pub AsksNext : ShelfSide → ShelfSide → List (List ℕ) → ℕ → Type 0
+AsksNext before now all done = AsksSome before now (names_of_next (slice_get all done))
+
 -- The lines done are the first ones of these, from a new session on, and what was begun is the reply to
--- the next one.
+-- the next one, for whose files alone the shelf was asked since.
 pub record Leads (status : Status) (before now : ShelfSide) (events : List Event) (part : List ℕ) (all : List (List ℕ)) : Type 0 where
   pub first : lines_of events ≡ take (length events) all
   pub begun : IsReachedAt status part → Begun (state_after new_state events) before now all (length events) part
   pub named : IsNamedAt status all (length events)
+  pub next : AsksNext before now all (length events)
 
 -- no more lines are to be done: the source has none left, or a quit is among those that a line feed ends
 abbrev pub IsOver : Option (List ℕ) → List ℕ → Type 0

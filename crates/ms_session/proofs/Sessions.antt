@@ -10,7 +10,7 @@ use Rattle.std.specs.declared.alloc.AllocError.{AllocError}
 use Rattle.ms_outside.specs.Shelves.{Answer, File}
 use Rattle.ms_command.specs.declared.reply.Reply as reply
 use Rattle.ms_command.specs.declared.command.Command.TheVariants as commands
-use Rattle.ms_session.specs.Outside.{AreAnswers, ShelfPasses, ShelfSide, SinkSide}
+use Rattle.ms_session.specs.Outside.{AreAnswers, AsksSome, ShelfPasses, ShelfSide, SinkSide}
 use Rattle.ms_session.specs.Commands.{AsksAt, Done, IsPartFor, IsReached, Stopped, StopsFor}
 use Rattle.ms_session.specs.Writing.{HasText, WriteCause, WriteStops}
 use Rattle.ms_session.proofs.Writing.{short_take, take_of_take}
@@ -100,6 +100,7 @@ stopped_early stop command state shelf shelf_now sink s =
       stops = both.0;
       at_stop = both.1;
       asked = s.asked;
+      some = s.some;
       unasked = s.unasked;
       passes = record { on_shelf = s.fetch.passes; writes = omega arith };
     }
@@ -132,6 +133,7 @@ stopped_late stop command state state_now output shelf shelf_now sink sink_now p
       stops = both.0;
       at_stop = both.1;
       asked = write_asks stop command sink.faults sink_now.faults s.cause;
+      some = record { answers = p.answers; asked = p.given.asked };
       unasked = p.unasked;
       passes = record { on_shelf = p.passes; writes = s.grows };
     }
@@ -197,7 +199,7 @@ replied_so command state state_now answers before now (Ok r) (Ok output) is says
 }
 replied_so command state state_now answers before now (Err none) (Ok output) is says given passes calm unasked = absurd (let none = is.1 in cc)
 replied_so command state state_now answers before now answer (Err stop) is says given passes calm unasked =
-    subst (λ s. PrepareStops s command before now) (sym is.0) (record { fetch = record { cause = calm; passes = passes }; asked = tt; unasked = unasked })
+    subst (λ s. PrepareStops s command before now) (sym is.0) (record { fetch = record { cause = calm; passes = passes }; asked = tt; some = record { answers = answers; asked = given.asked }; unasked = unasked })
 
 pub once_said : (state : State) (file name desc : List ℕ) (words : List ℤ) (answer : Answer) (result : Result reply.Reply AllocError) → IfOk result (λ r. r ≡ once_reply file name desc words answer)
     → IfOk result (λ r. Says (next state (commands.Once file name desc words) (answer ∷ [])) r state)
@@ -223,4 +225,4 @@ pub kept_so : (command : Command) (state state_now : State) (at : ShelfSide) (ou
 kept_so command state state_now at output (Ok out) none is leads short =
     prepared_unasked command state state_now out at none (subst (λ o. IfOk o (λ out. Leads (next state command []) out state_now)) is leads) (subst (λ o. IfOk o IsShort) is short)
 kept_so command state state_now at output (Err stop) none is leads short =
-    subst (λ s. PrepareStops s command at at) (sym is.0) (record { fetch = record { cause = refl; passes = same_shelf at }; asked = tt; unasked = λ none. refl })
+    subst (λ s. PrepareStops s command at at) (sym is.0) (record { fetch = record { cause = refl; passes = same_shelf at }; asked = tt; some = subst (AsksSome at at) (sym none) (record { answers = []; asked = (none_asked at).asked }); unasked = λ none. refl })

@@ -6,7 +6,7 @@ use Rattle.ms_outside.specs.Shelves.{Answer}
 use Rattle.ms_command.specs.declared.command.Command.{Command}
 use Rattle.ms_session.specs.declared.stop.Stop.{Stop}
 use Rattle.ms_session.specs.declared.stop.Stop.TheVariants as stops
-use Rattle.ms_session.specs.Outside.{AreAnswers, Calm, Passes, ShelfSide, SinkSide}
+use Rattle.ms_session.specs.Outside.{AreAnswers, AsksSome, Calm, Passes, ShelfSide, SinkSide}
 use Rattle.ms_session.specs.States.{State}
 use Rattle.ms_session.specs.Steps.{names_in, next}
 
@@ -60,5 +60,6 @@ pub record Stopped (stop : Stop) (command : Command) (state : State) (shelf shel
   pub stops : StopsFor stop shelf shelf_now sink sink_now
   pub at_stop : IsPartFor stop part
   pub asked : AsksAt stop command
+  pub some : AsksSome shelf shelf_now (names_in command)
   pub unasked : names_in command ≡ [] → shelf_now ≡ shelf
   pub passes : Passes shelf shelf_now sink sink_now

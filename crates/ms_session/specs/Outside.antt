@@ -42,6 +42,12 @@ pub record AreAnswers (before now : ShelfSide) (names : List (List ℕ)) (answer
   -- where the shelf tells its files, the answers are theirs
   pub told : IfSome before.files (λ files. answers ≡ map (answer_of files) names)
 
+-- Between the two moments the shelf was asked for some first ones of these names, once each and in this order, and for no
+-- others.
+pub record AsksSome (before now : ShelfSide) (names : List (List ℕ)) : Type 0 where
+  pub answers : List Answer
+  pub asked : now.asked ≡ before.asked ++ zip names answers
+
 -- no count of the shelf fell, and it has the files that it had
 pub record ShelfPasses (before now : ShelfSide) : Type 0 where
   pub files : now.files ≡ before.files

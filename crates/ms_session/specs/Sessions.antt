@@ -14,7 +14,7 @@ use Rattle.ms_session.specs.declared.fetching.Fetched.TheVariants as fetches
 use Rattle.ms_session.specs.declared.stop.Stop.{Stop}
 use Rattle.ms_session.specs.declared.stop.Stop.TheVariants as stops
 use Rattle.ms_session.specs.Commands.{AsksAt}
-use Rattle.ms_session.specs.Outside.{AreAnswers, ShelfPasses, ShelfSide}
+use Rattle.ms_session.specs.Outside.{AreAnswers, AsksSome, ShelfPasses, ShelfSide}
 use Rattle.ms_session.specs.declared.output.Output.{Output}
 use Rattle.ms_session.specs.declared.output.Output.TheVariants as outputs
 use Rattle.ms_session.specs.Known.{Known, nothing_known}
@@ -111,10 +111,15 @@ FetchCause stops.ShelfFault before now = Rose before.counts.faults now.counts.fa
 FetchCause stops.WriteFault before now = ⊥
 FetchCause stops.NoMemory before now = now.counts.faults ≡ before.counts.faults
 
--- a fetch stopped the command
+-- a fetch, or want of memory behind it, stopped the command
 pub record FetchStops (stop : Stop) (before now : ShelfSide) : Type 0 where
   pub cause : FetchCause stop before now
   pub passes : ShelfPasses before now
+
+-- a fetch that brought no answer stopped it
+pub record Unanswered (stop : Stop) (before now : ShelfSide) : Type 0 where
+  pub fetch : FetchStops stop before now
+  pub asked : now.asked ≡ before.asked
 
 -- ---- COMMANDS
 
@@ -122,6 +127,7 @@ pub record FetchStops (stop : Stop) (before now : ShelfSide) : Type 0 where
 pub record PrepareStops (stop : Stop) (command : Command) (before now : ShelfSide) : Type 0 where
   pub fetch : FetchStops stop before now
   pub asked : AsksAt stop command
+  pub some : AsksSome before now (names_in command)
   pub unasked : names_in command ≡ [] → now ≡ before
 
 -- what a command is about to write, and the state, by the shelf's answers

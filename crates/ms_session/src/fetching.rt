@@ -1,6 +1,6 @@
 ghost use Rattle.std.specs.Prelude.{MatchResult};
 ghost use Rattle.ms_session.specs.Outside.{shelf_side};
-ghost use Rattle.ms_session.specs.Sessions.{FetchStops, IsGiven, answer_in};
+ghost use Rattle.ms_session.specs.Sessions.{IsGiven, Unanswered, answer_in};
 
 use crate::stop::Stop;
 use ms_outside::{Fetch, Shelf};
@@ -22,7 +22,7 @@ pub enum Fetched {
 pub fn ask<F: Shelf>(alloc: Global, file: &Name, shelf: &mut F) -> Result<Fetched, Stop>
     ensures { MatchResult result
         (λ found. IsGiven file.now (answer_in found) (shelf_side (F.files shelf.old) (F.counts shelf.old) (F.asked shelf.old)) (shelf_side (F.files shelf.new) (F.counts shelf.new) (F.asked shelf.new)))
-        (λ stop. FetchStops stop (shelf_side (F.files shelf.old) (F.counts shelf.old) (F.asked shelf.old)) (shelf_side (F.files shelf.new) (F.counts shelf.new) (F.asked shelf.new))) }
+        (λ stop. Unanswered stop (shelf_side (F.files shelf.old) (F.counts shelf.old) (F.asked shelf.old)) (shelf_side (F.files shelf.new) (F.counts shelf.new) (F.asked shelf.new))) }
 {
     match shelf.fetch(alloc, file.bytes()) {
         Fetch::Bytes(bytes) => Ok(Fetched::Bytes(bytes)),
