@@ -74,10 +74,11 @@ short at = At kinds.Short at
 abbrev pub shape : ℕ → ℕ → ClassFault
 shape attribute_at at = At kinds.Shape attribute_at
 
--- a number of two bytes, and of four
+-- a number of two bytes
 abbrev pub u2 : (ℕ → ClassFault) → Format ClassFault ℕ
 u2 too_short = number too_short 2
 
+-- a number of four bytes
 abbrev pub u4 : (ℕ → ClassFault) → Format ClassFault ℕ
 u4 too_short = number too_short 4
 
@@ -118,7 +119,7 @@ is_int_kind desc = bytes_eq desc (codes "Z") || (bytes_eq desc (codes "B") || (b
 
 -- THE HEADS OF FIELDS AND METHODS
 
--- with what a field or a method begins: its place, its flags, its name and its descriptor with their numbers
+-- what a field or a method begins with: its place, its flags, its name and its descriptor with their constant pool indexes
 pub record Head : Type 0 where
   pub at : ℕ
   pub access : ℕ
@@ -127,6 +128,7 @@ pub record Head : Type 0 where
   pub desc : List ℕ
   pub desc_index : ℕ
 
+-- how that is written: flags, and the indexes of the name and of the descriptor
 unfoldable pub head : List (Option Placed) → Format ClassFault Head
 head pool = do
   at ← here
@@ -139,10 +141,11 @@ head pool = do
 abbrev pub is_there : (name desc : List ℕ) → List (List ℕ × List ℕ) → Bool
 is_there name desc keys = list_any (λ (key : List ℕ × List ℕ). bytes_eq name key.0 && bytes_eq desc key.1) keys
 
--- the name and descriptor of a field, and of a method
+-- the name and descriptor of a field
 abbrev pub field_key : Field → List ℕ × List ℕ
 field_key field = (field.name, field.desc)
 
+-- the name and descriptor of a method
 abbrev pub method_key : Method → List ℕ × List ℕ
 method_key method = (method.name, method.desc)
 

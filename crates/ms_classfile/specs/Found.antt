@@ -11,14 +11,16 @@ use Rattle.ms_classfile.specs.declared.thin.parts.RawAttribute.{RawAttribute}
 use Rattle.ms_classfile.specs.declared.thin.parts.ThinMethod.{ThinMethod}
 use Rattle.ms_classfile.specs.ThinFile.{Entry, Utf8, Class, Attribute, Method}
 
--- an entry, an attribute, a method, without where their bytes lie in memory
+-- an entry of the pool, without where its bytes lie in memory
 abbrev pub entry_view : PoolEntry → Entry
 entry_view (entries.Utf8 text) = Utf8 text.now
 entry_view (entries.Class name) = Class name
 
+-- the same for an attribute
 abbrev pub attribute_view : RawAttribute → Attribute
 attribute_view attribute = record { name = attribute.name; content = attribute.content.now }
 
+-- the same for a method
 abbrev pub view : ThinMethod → Method
 view method = record { class = method.class.now; name = method.name.now; descriptor = method.descriptor.now; kinds = method.kinds; result = method.result; max_stack = method.max_stack; instructions = method.instructions.items }
 

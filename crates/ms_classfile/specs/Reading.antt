@@ -29,16 +29,19 @@ abbrev pub provided : {A : Type 0} → Bool → Option A → Option A
 provided true read = read
 provided false read = None
 
--- a number of one byte, of two, of four, and a run of n bytes, each with the place behind it
+-- a number of one byte, with the place behind it
 abbrev pub u1_at : Place → Option (ℕ × Place)
 u1_at place = result_ok (number_at 1 place)
 
+-- a number of two bytes
 abbrev pub u2_at : Place → Option (ℕ × Place)
 u2_at place = result_ok (number_at 2 place)
 
+-- a number of four bytes
 abbrev pub u4_at : Place → Option (ℕ × Place)
 u4_at place = result_ok (number_at 4 place)
 
+-- a run of n bytes
 abbrev pub bytes_at : ℕ → Place → Option (List ℕ × Place)
 bytes_at n place = result_ok (run_at n place)
 
@@ -52,13 +55,14 @@ repeated read (suc n) place = do
 
 -- THE CONSTANT POOL
 
--- behind their tags, a text and a class
+-- a text, behind its tag
 unfoldable pub text_at : Place → Option (Entry × Place)
 text_at place = do
   size ← u2_at place
   text ← bytes_at size.0 size.1
   Some (Utf8 text.0, text.1)
 
+-- a class, behind its tag
 unfoldable pub class_at : Place → Option (Entry × Place)
 class_at place = do
   name ← u2_at place

@@ -43,9 +43,10 @@ AreKeysOf pool numbers keys pairs = ⊥
 abbrev pub head_view : names.Head.Head → Head
 head_view head = record { at = head.at; access = head.access; name = head.name.text.now; name_index = head.name.index; desc = head.desc.text.now; desc_index = head.desc.index }
 
--- the field and the method with such a beginning
+-- the field with such a beginning
 abbrev pub field_of : Head → Option ℤ → Field
 field_of head initial = record { access = head.access; name = head.name; name_index = head.name_index; desc = head.desc; desc_index = head.desc_index; initial = unwrap_or initial (pos 0) }
 
+-- the method with such a beginning
 abbrev pub method_of : Head → Option Code → Method
 method_of head code = record { access = head.access; name = head.name; name_index = head.name_index; desc = head.desc; desc_index = head.desc_index; code = code; at = head.at }

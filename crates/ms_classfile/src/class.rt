@@ -14,8 +14,8 @@ pub struct FieldRow<'a> {
     pub desc: &'a [u8],
     /// The pool's number of the descriptor.
     pub desc_index: u16,
-    /// The int that the field has at first: that of its first ConstantValue, where the field is static and of the kind
-    /// Z, B, C, S or I and has one, and else 0. It is not narrowed to the kind.
+    /// The int that the field has at first: that of its first ConstantValue, where the field is static
+    /// and of the kind Z, B, C, S or I and has one, and else 0. It is not narrowed to the kind.
     pub initial: i32,
 }
 

@@ -8,8 +8,8 @@ use thiserror::Error;
 /// Why no class was read.
 #[derive(Clone, Copy, Debug, PartialEq, Eq, Drop, Error)]
 pub enum ClassFault {
-    /// The bytes aren't a class file as `read_class` takes it: the first fault, in reading order, and its place, which
-    /// is how many bytes come before it.
+    /// The bytes aren't a class file as `read_class` takes it: the first fault, in reading order, and its
+    /// place, which is how many bytes come before it.
     #[error("no class file: {kind:?} at {at}")]
     At { kind: ClassKind, at: u64 },
     /// Memory ran out.

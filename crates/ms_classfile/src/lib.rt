@@ -1,6 +1,7 @@
-//! Class files (JVMS SE 8, chapter 4). `read_class` reads those of classes directly below java/lang/Object, up to major
-//! version 52, or gives their first fault. `read_thin` reads thin files alone: those of one class with one static method
-//! over ints and booleans, whose code computes, branches ahead and returns.
+//! Class files (JVMS SE 8, chapter 4). `read_class` reads those of classes directly below
+//! java/lang/Object, up to major version 52, or gives their first fault. `read_thin` reads thin files
+//! alone: those of one class with one static method over ints and booleans, whose code computes, branches
+//! ahead and returns.
 #![tactic(auto)]
 
 mod class;

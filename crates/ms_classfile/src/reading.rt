@@ -169,25 +169,27 @@ fn class<'a>(alloc: Global, bytes: &'a [u8]) -> Result<Class<'a>, ClassFault>
     })
 }
 
-/// Reads a class file (JVMS SE 8, chapter 4) of a major version from 45 to 52, of a class whose direct superclass is
-/// java/lang/Object and that has the name of none of the known throwables. Names, descriptors, texts and code are lent
-/// from the bytes. It takes memory for the pool's places, for numbers of its texts, and for the rows.
+/// Reads a class file (JVMS SE 8, chapter 4) of a major version from 45 to 52, of a class whose direct
+/// superclass is java/lang/Object and that has the name of none of the known throwables. Names,
+/// descriptors, texts and code are lent from the bytes. It takes memory for the pool's places, for
+/// numbers of its texts, and for the rows.
 ///
 /// What is a fault, by kind, and at which place:
 ///
 /// - `Short`: a number, or a run of bytes, doesn't fit in what is left: where it would begin.
 /// - `Magic`: the first four bytes aren't 0xCAFEBABE: 0. `Version`: the major version is outside 45 to 52: 6.
-/// - `Pool`: the pool's count is 0, a tag is unknown, or a Long or Double would take a number that the pool doesn't
-///   have: the count or the tag.
-/// - `Index`: an entry of the pool with a tag from 7 to 12 names a number without the wanted tag: the entry's tag. Later
-///   the index of this class, of a name, of a descriptor, of a class that is caught, or of the Integer of a
-///   ConstantValue that counts: that index.
-/// - `Super`: the superclass isn't java/lang/Object, or the class has the name of a known throwable: the index of the
-///   superclass, or where that would be.
-/// - `Shape`: a code of no bytes or of more than 65,535, a Code that its content doesn't fill or fit in, a second Code
-///   of a method, a ConstantValue that counts and whose length isn't 2: the attribute, which begins with its name.
-/// - `Duplicate`: a field or a method has the name and descriptor of an earlier one: its start. `Trailing`: bytes stand
-///   behind the file: the first of them.
+/// - `Pool`: the pool's count is 0, a tag is unknown, or a Long or Double would take a number that the
+///   pool doesn't have: the count or the tag.
+/// - `Index`: an entry of the pool with a tag from 7 to 12 names a number without the wanted tag: the
+///   entry's tag. Later the index of this class, of a name, of a descriptor, of a class that is caught,
+///   or of the Integer of a ConstantValue that counts: that index.
+/// - `Super`: the superclass isn't java/lang/Object, or the class has the name of a known throwable: the
+///   index of the superclass, or where that would be.
+/// - `Shape`: a code of no bytes or of more than 65,535, a Code that its content doesn't fill or fit in,
+///   a second Code of a method, a ConstantValue that counts and whose length isn't 2: the attribute,
+///   which begins with its name.
+/// - `Duplicate`: a field or a method has the name and descriptor of an earlier one: its start.
+///   `Trailing`: bytes stand behind the file: the first of them.
 pub fn read_class<'a>(alloc: Global, bytes: &'a [u8]) -> Result<Class<'a>, ClassFault>
     // The bytes are the class file of the class that is found.
     ensures class { IfOk result (λ class. IsClassFile bytes.now (class_view class)) }

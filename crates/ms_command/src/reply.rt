@@ -13,8 +13,9 @@ pub enum Reply {
     Ran {
         end: Name,
     },
-    /// `ok class CLASS verdicts v segments g`: the class of this name was added to the program. These are the
-    /// numbers of the entry's strings whose verdict, and whose segment, is known then, each from 0 to 4,294,967,295.
+    /// `ok class CLASS verdicts v segments g`: the class of this name was added to the program. These are
+    /// the numbers of the entry's strings whose verdict, and whose segment, is known then, each from 0 to
+    /// 4,294,967,295.
     ClassAdded {
         class: Name,
         verdicts: u32,
@@ -69,8 +70,8 @@ pub enum Reply {
     EntryMissing,
     /// `refused 13 Range`: a form of a command fits the line, and a number is outside its range.
     Range,
-    /// `refused 90 NotBuilt`: the file, the method or the words are beyond what is built so far, or a class of another
-    /// name is present.
+    /// `refused 90 NotBuilt`: the file, the method or the words are beyond what is built so far, or a
+    /// class of another name is present.
     NotBuilt,
 }
 

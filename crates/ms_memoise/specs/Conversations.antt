@@ -33,13 +33,15 @@ pub record Elapses (before now : Outside) : Type 0 where
   pub fetches : CountsGrow before.shelf.counts now.shelf.counts
   pub files : now.shelf.files ≡ before.shelf.files
 
--- the count of faults of the source, of the shelf, of the sink stayed as it was
+-- the source's count of faults stayed as it was
 abbrev pub NoReadFailed : Outside → Outside → Type 0
 NoReadFailed before now = now.source.faults ≡ before.source.faults
 
+-- the shelf's did
 abbrev pub NoFetchFailed : Outside → Outside → Type 0
 NoFetchFailed before now = now.shelf.counts.faults ≡ before.shelf.counts.faults
 
+-- the sink's did
 abbrev pub NoWriteFailed : Outside → Outside → Type 0
 NoWriteFailed before now = now.sink.faults ≡ before.sink.faults
 

@@ -9,6 +9,7 @@ pub(crate) struct Calls {
 }
 
 impl Calls {
+    /// No call has come yet. Those with these numbers are to fail.
     pub(crate) fn new(fails: Vec<u32>) -> Calls
         ensures fails { result.fails.items ≡ fails.items }
         ensures count { result.count ≡ 0 }

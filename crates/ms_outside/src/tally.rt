@@ -25,6 +25,7 @@ impl Model for Tally {
 }
 
 impl Tally {
+    /// Nothing was asked yet.
     pub(crate) fn new() -> Tally
         ensures { result ≡ record { asked = []; counts = record { faults = 0; misses = 0; overlong = 0 } } }
     {

@@ -17,9 +17,11 @@ pub record IsExact {Fault X : Type 0} (format : Format Fault X) : Type 0 where
   pub breaks : (place : Place) (fault : Fault) → IsBytes place.left → format.read place ≡ Err fault → format.Breaks place fault
   pub faults : (place : Place) (fault : Fault) → IsBytes place.left → format.Breaks place fault → format.read place ≡ Err fault
 
+-- two values that are one answer are one
 pub ok_is : {A Fault : Type 0} (x y : A) → ◌≡◌ {A = Result A Fault} (Ok x) (Ok y) → x ≡ y
 ok_is x y e = cc
 
+-- two faults that are one answer are one
 pub err_is : {A Fault : Type 0} (x y : Fault) → ◌≡◌ {A = Result A Fault} (Err x) (Err y) → x ≡ y
 err_is x y e = cc
 
@@ -58,6 +60,7 @@ place_is p q at left = ap (λ (a : ℕ). record { at = a; left = p.left }) at �
 
 -- ONE PART
 
+-- a number of 1, 2 or 4 bytes
 pub number_exact : {Fault : Type 0} (short : ℕ → Fault) (n : ℕ) → IsWidth n → IsExact (number short n)
 number_exact short n wide = record {
   fits = λ place x bytes found. subst (λ (y : ℕ × Place). IsBytes y.1.left) (enough_ok short n place (big_number n place.left, behind place n) x found).1 (IsBytes-drop n place.left bytes);
@@ -82,6 +85,7 @@ number_exact short n wide = record {
     back : (place : Place) → n ≤ length place.left → IsBytes place.left → number_bytes n (big_number n place.left) ≡ take n place.left
     back place enough bytes = ap (number_bytes n) (sym (big_from-take 0 n n place.left (omega arith))) ∙ wide.back (take n place.left) (omega (arith, enough, length-take n place.left)) (IsBytes-take n place.left bytes)
 
+-- a run of bytes
 pub run_exact : {Fault : Type 0} (short : ℕ → Fault) (n : ℕ) → IsExact (run short n)
 run_exact short n = record {
   fits = λ place x bytes found. subst (λ (y : List ℕ × Place). IsBytes y.1.left) (enough_ok short n place (take n place.left, behind place n) x found).1 (IsBytes-drop n place.left bytes);
@@ -100,6 +104,7 @@ run_exact short n = record {
 
 -- NO PART
 
+-- a value without bytes
 pub done_exact : {Fault X : Type 0} (x : X) → IsExact {Fault = Fault} (done x)
 done_exact {X = X} x = record {
   fits = λ place y bytes found. subst (λ (z : X × Place). IsBytes z.1.left) (ok_is (x, place) y found) bytes;
@@ -109,6 +114,7 @@ done_exact {X = X} x = record {
   faults = λ place fault bytes is. absurd is;
 }
 
+-- the place
 pub here_exact : {Fault : Type 0} → IsExact {Fault = Fault} here
 here_exact = record {
   fits = λ place y bytes found. subst (λ (z : ℕ × Place). IsBytes z.1.left) (ok_is (place.at, place) y found) bytes;
@@ -118,6 +124,7 @@ here_exact = record {
   faults = λ place fault bytes is. absurd is;
 }
 
+-- what was looked up
 pub found_exact : {Fault X : Type 0} (option : Option X) (fault : Fault) → IsExact (found option fault)
 found_exact {X = X} (Some x) fault = record {
   fits = λ place y bytes found. subst (λ (z : X × Place). IsBytes z.1.left) (ok_is (x, place) y found) bytes;
@@ -137,6 +144,7 @@ found_exact {X = X} None fault = record {
   faults = λ place broken bytes is. ap (λ f. Err f) (sym is.1);
 }
 
+-- a check
 pub check_exact : {Fault : Type 0} (test : Bool) (fault : Fault) → IsExact (check test fault)
 check_exact true fault = record {
   fits = λ place y bytes found. subst (λ (z : Unit {0} × Place). IsBytes z.1.left) (ok_is (tt, place) y found) bytes;
@@ -153,6 +161,7 @@ check_exact false fault = record {
   faults = λ place broken bytes is. ap (λ f. Err f) (sym is.1);
 }
 
+-- the end of the bytes
 pub end_exact : {Fault : Type 0} (trailing : ℕ → Fault) → IsExact (end trailing)
 end_exact {Fault = Fault} trailing = record {
   fits = λ place y bytes found. subst (λ (p : Place). IsBytes p.left) (sym (ends place place.left y refl found).1) bytes;
@@ -189,6 +198,7 @@ pub then_err : {A B Fault P : Type 0} (read : Result A Fault) (next : A → Resu
 then_err (Ok x) next fault found use_first use_both = use_both x refl found
 then_err {B = B} (Err other) next fault found use_first use_both = use_first (ap (λ f. Err f) (err_is {A = B} other fault found))
 
+-- one part, and then the one that it leads to
 pub both_exact : {Fault X Y : Type 0} (first : Format Fault X) (rest : X → Format Fault Y) → IsExact first → ((x : X) → IsExact (rest x)) → IsExact (first >>= rest)
 both_exact {Fault = Fault} {X = X} {Y = Y} first rest one more = record {
   fits = λ place y bytes found. then_ok (first.read place) _ y found (λ x is_first is_rest. (more x.0).fits x.1 y (one.fits place x bytes is_first) is_rest);
@@ -208,16 +218,20 @@ both_exact {Fault = Fault} {X = X} {Y = Y} first rest one more = record {
         let found = one.reads place later.x later.between bytes later.is_first in
         ap (λ (r : Result (X × Place) Fault). and_then r (λ (f : X × Place). (rest f.0).read f.1)) found ∙ (more later.x).faults later.between fault (one.fits place (later.x, later.between) bytes found) later.broken
 
+-- a part so many times, each led to by the one before
 pub repeated_exact : {Fault X : Type 0} (n : ℕ) (part : X → Format Fault X) (known : X) → ((x : X) → IsExact (part x)) → IsExact (repeated n part known)
 repeated_exact zero part known each = done_exact known
 repeated_exact (suc n) part known each = both_exact (part known) (repeated n part) (each known) (λ x. repeated_exact n part x each)
 
+-- a part that is added to those before it
 pub added_exact : {Fault X : Type 0} (part : List X → Format Fault X) (before : List X) → IsExact (part before) → IsExact (added part before)
 added_exact part before one = both_exact (part before) (λ x. done (before ++ x ∷ [])) one (λ x. done_exact (before ++ x ∷ []))
 
+-- a content that fills the bytes
 pub filled_exact : {Fault X : Type 0} (trailing : ℕ → Fault) (content : Format Fault X) → IsExact content → IsExact (filled trailing content)
 filled_exact trailing content one = both_exact content (λ x. end trailing >>= λ ended. done x) one (λ x. both_exact (end trailing) (λ ended. done x) (end_exact trailing) (λ ended. done_exact x))
 
+-- a content that fills the next n bytes
 pub within_exact : {Fault X : Type 0} (short trailing : ℕ → Fault) (n : ℕ) (content : Format Fault X) → IsExact content → IsExact (within short trailing n content)
 within_exact {Fault = Fault} {X = X} short trailing n content one = record {
   fits = λ place y bytes is_read. (spelled place y bytes is_read).1;

@@ -126,6 +126,7 @@ pub record BreaksLater {Fault X Y : Type 0} (first : Format Fault X) (rest : X �
   pub is_first : first.Spells place x between
   pub broken : (rest x).Breaks between fault
 
+-- one part, and then the one that its value leads to
 infixl 10 ◌>>=◌
 abbrev pub ◌>>=◌ : {Fault X Y : Type 0} → Format Fault X → (X → Format Fault Y) → Format Fault Y
 first >>= rest = record {

@@ -13,6 +13,7 @@ use Rattle.ms_pool.specs.declared.cursor.Short.{Short}
 abbrev pub IsBytes : List ℕ → Type 0
 IsBytes bytes = (i : ℕ) → slice_index bytes i < 256
 
+-- the same, element by element
 pub bytes_from_all : (bytes : List ℕ) → All (λ byte. byte < 256) bytes → IsBytes bytes
 bytes_from_all bytes all i =
     elim (cases_lt i (length bytes)) [
@@ -58,6 +59,7 @@ long_enough : {A : Type 0} (short : Bool) (fault : Short) (x y : A) → cond sho
 long_enough true fault x y found = absurd cc
 long_enough false fault x y found = (refl, cc)
 
+-- a number that is read is spelled so, and is small enough for its bytes
 pub number_is_read : (n : ℕ) → IsWidth n → (place : Place) (x : ℕ × Place) → IsBytes place.left → number_at n place ≡ Ok x → IsRead n (number_bytes n x.0) place x.1 × (x.0 < 256 ^ n)
 number_is_read n wide place x fits found =
     let g = long_enough (ltb (length place.left) n) (record { at = place.at }) (big_number n place.left, behind place n) x found in
@@ -67,11 +69,13 @@ number_is_read n wide place x fits found =
     subst (λ (y : ℕ × Place). IsRead n (number_bytes n y.0) place y.1 × (y.0 < 256 ^ n)) g.1
     (record { front = same; enough = long; moved = refl }, big_from-lt 0 n place.left fits)
 
+-- a run of bytes that is read stands there
 pub run_is_read : (n : ℕ) (place : Place) (x : List ℕ × Place) → run_at n place ≡ Ok x → IsRead n x.0 place x.1
 run_is_read n place x found =
     let g = long_enough (ltb (length place.left) n) (record { at = place.at }) (take n place.left, behind place n) x found in
     subst (λ (y : List ℕ × Place). IsRead n y.0 place y.1) g.1 (record { front = refl; enough = ltb-false _ _ g.0; moved = refl })
 
+-- a number that is spelled is read
 pub number_again : (n x : ℕ) (place : Place) (rest : List ℕ) → x < 256 ^ n → place.left ≡ number_bytes n x ++ rest → (number_at n place ≡ Ok (x, behind place n)) × (drop n place.left ≡ rest)
 number_again n x place rest below spelled =
     let len = length-bytes_high_first n x in
@@ -79,6 +83,7 @@ number_again n x place rest below spelled =
     let value : big_number n place.left ≡ x = ap (big_number n) spelled ∙ big_number-reads_back n x rest below in
     (rw (long, value) refl, ap (drop n) spelled ∙ drop_at (number_bytes n x) rest n len)
 
+-- a run of bytes that stands there is read
 pub run_again : (text : List ℕ) (place : Place) (rest : List ℕ) → place.left ≡ text ++ rest → (run_at (length text) place ≡ Ok (text, behind place (length text))) × (drop (length text) place.left ≡ rest)
 run_again text place rest spelled =
     let long : ltb (length place.left) (length text) ≡ false = le-ltb _ _ (omega (arith, length-append text rest, ap length spelled)) in

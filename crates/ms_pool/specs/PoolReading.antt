@@ -21,16 +21,19 @@ read >>= next = and_then read next
 abbrev pub of_short : {X : Type 0} → Result X cursor.Short → Result X PoolFault
 of_short read = or_short Short read
 
--- a number of one byte, of two, of four, and a run of n bytes
+-- a number of one byte
 abbrev pub u1_at : Place → Read ℕ
 u1_at place = of_short (number_at 1 place)
 
+-- a number of two bytes
 abbrev pub u2_at : Place → Read ℕ
 u2_at place = of_short (number_at 2 place)
 
+-- a number of four bytes
 abbrev pub u4_at : Place → Read ℕ
 u4_at place = of_short (number_at 4 place)
 
+-- a run of n bytes
 abbrev pub bytes_at : ℕ → Place → Read (List ℕ)
 bytes_at n place = of_short (run_at n place)
 

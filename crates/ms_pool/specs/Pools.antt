@@ -63,13 +63,15 @@ IsEntry (Handle kind index) = (kind < 2 ^ 8) × (index < 2 ^ 16)
 
 -- HOW THEY ARE SPELLED
 
--- a number of one byte, of two, of four
+-- a number of one byte
 abbrev pub u1 : ℕ → List ℕ
 u1 n = number_bytes 1 n
 
+-- a number of two bytes
 abbrev pub u2 : ℕ → List ℕ
 u2 n = number_bytes 2 n
 
+-- a number of four bytes
 abbrev pub u4 : ℕ → List ℕ
 u4 n = number_bytes 4 n
 

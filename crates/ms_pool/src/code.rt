@@ -2,7 +2,8 @@ ghost use Rattle.std.specs.Prelude.{◌≡◌};
 
 use std::marker::Model;
 
-/// Why bytes aren't read as a class file (JVMS SE 8, chapter 4), by kind. `read_class` says which place each has.
+/// Why bytes aren't read as a class file (JVMS SE 8, chapter 4), by kind. `read_class` says which place
+/// each has.
 #[derive(Clone, Copy, Debug, PartialEq, Eq)]
 pub enum ClassKind {
     /// A number, or a run of bytes, doesn't fit in what is left.
@@ -25,15 +26,15 @@ pub enum ClassKind {
     Trailing,
     /// An instruction passes the end of the code.
     Cut,
-    /// A branch, or an entry of an exception table, leads to no instruction's start, or an entry's range is empty. Its
-    /// end may be the end of the code.
+    /// A branch, or an entry of an exception table, leads to no instruction's start, or an entry's range
+    /// is empty. Its end may be the end of the code.
     Target,
     /// The bounds or the keys of a switch aren't in order, or the number of its keys is negative.
     Switch,
 }
 
-/// An entry of an exception table, as it stands (section 4.7.3): offsets in the code, and a number of the pool, or 0
-/// for any class.
+/// An entry of an exception table, as it stands (section 4.7.3): offsets in the code, and a number of the
+/// pool, or 0 for any class.
 #[derive(Clone, Copy, Debug, PartialEq, Eq)]
 pub struct RawHandler {
     /// Where the covered code begins.
@@ -77,8 +78,8 @@ impl Handlers {
     }
 }
 
-/// The Code attribute of a method (section 4.7.3), its code lent from the bytes of the file. A place is how many
-/// bytes of the file come before it.
+/// The Code attribute of a method (section 4.7.3), its code lent from the bytes of the file. A place is
+/// how many bytes of the file come before it.
 #[derive(Debug, Drop)]
 pub struct CodeRow<'a> {
     /// The most values on the operand stack.

@@ -20,11 +20,12 @@ pub struct Member<'a> {
     pub desc: &'a [u8],
 }
 
-/// Where the entries of a constant pool stand in the bytes that it was read from, which it doesn't keep. It has a
-/// place for each number below the pool's count: that of the entry's tag, or 0 where no entry has the number.
+/// Where the entries of a constant pool stand in the bytes that it was read from, which it doesn't keep.
+/// It has a place for each number below the pool's count: that of the entry's tag, or 0 where no entry
+/// has the number.
 ///
-/// Each getter is given the bytes once more. They are to be those that were read: for others it answers what stands
-/// in them at those places, which needn't be the pool's entry. No getter takes memory.
+/// Each getter is given the bytes once more. They are to be those that were read: for others it answers
+/// what stands in them at those places, which needn't be the pool's entry. No getter takes memory.
 #[derive(Debug, Drop)]
 pub struct PoolIndex {
     places: Vec<usize>,

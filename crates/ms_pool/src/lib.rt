@@ -1,6 +1,7 @@
-//! Numbers and runs of bytes, read one after another from a list of bytes and written to one, as class files and
-//! stores spell them: each number with its highest byte first. The constant pool of a class file, read and lent. The
-//! rows of a Code attribute, for the crates that read and decode it. `specs/Formats` has what a format of bytes is.
+//! Numbers and runs of bytes, read one after another from a list of bytes and written to one, as class
+//! files and stores spell them: each number with its highest byte first. The constant pool of a class
+//! file, read and lent. The rows of a Code attribute, for the crates that read and decode it.
+//! `specs/Formats` has what a format of bytes is.
 #![tactic(auto)]
 
 mod code;

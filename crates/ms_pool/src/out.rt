@@ -4,8 +4,8 @@ use byteorder::{BigEndian, ByteOrder};
 use std::alloc::{AllocError as NoMemory, Global};
 use std::marker::Model;
 
-/// Bytes that numbers and runs are written to, one after another, each number with its highest byte first. A write
-/// fails for want of memory alone, and then changes nothing.
+/// Bytes that numbers and runs are written to, one after another, each number with its highest byte
+/// first. A write fails for want of memory alone, and then changes nothing.
 #[derive(Debug, Drop)]
 pub struct Out {
     bytes: Vec<u8>,

@@ -9,8 +9,8 @@ use crate::Short;
 use std::alloc::{AllocError, AllocFailed};
 use thiserror::Error;
 
-/// Why no constant pool was read (JVMS SE 8, section 4.4). But for want of memory, each says that the bytes begin
-/// with none; its place is how many bytes come before it.
+/// Why no constant pool was read (JVMS SE 8, section 4.4). But for want of memory, each says that the
+/// bytes begin with none; its place is how many bytes come before it.
 #[derive(Clone, Copy, Debug, PartialEq, Eq, Drop, Error)]
 pub enum PoolFault {
     /// A number, or a run of bytes, doesn't fit in what is left: where it would begin.
@@ -20,8 +20,8 @@ pub enum PoolFault {
     /// the place of the count or the tag.
     #[error("the pool can't be as the number at {at} says")]
     Pool { at: u64 },
-    /// All entries are whole, and one of a tag from 7 to 12 names a number that no entry of the wanted tag has: the
-    /// place of the first such entry's tag, in order of number.
+    /// All entries are whole, and one of a tag from 7 to 12 names a number that no entry of the wanted
+    /// tag has: the place of the first such entry's tag, in order of number.
     #[error("the pool's entry at {at} names a number without the wanted tag")]
     Index { at: u64 },
     /// Memory ran out.

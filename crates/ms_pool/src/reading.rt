@@ -12,9 +12,9 @@ use crate::{Cursor, Member, PoolFault, PoolIndex};
 use std::alloc::Global;
 use std::marker::Model;
 
-/// A constant pool, lent from the bytes that it was read from (JVMS SE 8, section 4.4). Each number that an entry
-/// names has the tag that is wanted there, but for those of a MethodHandle, a MethodType and an InvokeDynamic.
-/// Texts may be any bytes. No getter takes memory.
+/// A constant pool, lent from the bytes that it was read from (JVMS SE 8, section 4.4). Each number that
+/// an entry names has the tag that is wanted there, but for those of a MethodHandle, a MethodType and an
+/// InvokeDynamic. Texts may be any bytes. No getter takes memory.
 #[derive(Debug, Drop)]
 pub struct Pool<'a> {
     bytes: &'a [u8],
@@ -165,8 +165,9 @@ fn read<'a>(alloc: Global, bytes: &'a [u8], cursor: &mut Cursor<'a>) -> Result<P
     Ok(Pool { bytes, index })
 }
 
-/// Reads the constant pool at the cursor, its count first (JVMS SE 8, section 4.1). It takes memory for a place for
-/// each number. After a fault the cursor may stand anywhere. That memory ran out has no cause in a clause.
+/// Reads the constant pool at the cursor, its count first (JVMS SE 8, section 4.1). It takes memory for a
+/// place for each number. After a fault the cursor may stand anywhere. That memory ran out has no cause
+/// in a clause.
 pub fn read_pool<'a>(alloc: Global, cursor: &mut Cursor<'a>) -> Result<Pool<'a>, PoolFault>
     // The bytes begin with the pool that is found, and the cursor goes behind it.
     ensures pool { IfOk result (λ pool. IsPoolOf cursor.old pool cursor.new) }

@@ -37,6 +37,7 @@ impl Known {
         }
     }
 
+    /// Whether the verdict of a nonempty string is to be found.
     pub fn lacks_verdict(&self, string: &ChoiceString) -> bool
         ensures { result ≡ known.lacks_verdict self.now string.now }
     {
@@ -49,12 +50,15 @@ impl Known {
         node.least.is_some() && !self.segments.contains(&node.string)
     }
 
+    /// Whether a node isn't settled: its verdict, or its segment, is to be found.
     pub fn is_open(&self, node: &Node<'_>) -> bool
         ensures { result ≡ walking.is_open self.now (node_view node.now) }
     {
         self.lacks_verdict(&node.string) || self.lacks_segment(node)
     }
 
+    /// Settles a node: makes known its verdict, where its string isn't empty, and its segment, where some
+    /// input takes it.
     pub fn close(&mut self, alloc: Global, node: &Node<'_>) -> Result<(), NoMemory>
         ensures { OnOk result (self.new ≡ walking.closed self.old (node_view node.now)) }
     {

@@ -95,8 +95,8 @@ impl Input {
         self.words()[i]
     }
 
-    /// Makes `word` the word of parameter `i`, counted from 0 and below their number. It answers false, and changes nothing,
-    /// exactly where the word is not one of the parameter's kind.
+    /// Makes `word` the word of parameter `i`, counted from 0 and below their number. It answers false,
+    /// and changes nothing, exactly where the word is not one of the parameter's kind.
     pub fn set(&mut self, i: usize, word: i32) -> bool
         requires { i < length self.old.kinds }
         ensures fits { IfSome (slice_get self.old.kinds i) (λ kind. result ≡ is_of kind word) }

@@ -1,5 +1,5 @@
-//! The words that the machine computes with, their operators and relations, kinds, inputs and their order, items, ends of
-//! runs, names, and the classes of throwables.
+//! The words that the machine computes with, their operators and relations, kinds, inputs and their
+//! order, items, ends of runs, names, and the classes of throwables.
 //!
 //! A word is an int of the Java virtual machine: a whole number from -2,147,483,648 to
 //! 2,147,483,647 (JVMS SE 8, section 2.3). An operator computes with whole numbers and reduces the

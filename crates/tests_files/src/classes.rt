@@ -15,9 +15,9 @@ pub static FILE: [u8; 107] = [
     0,
 ];
 
-/// A class file of one class R with an interface, three fields and two methods: a static int with two ConstantValues, a
-/// static long with one, an instance's boolean with one that isn't of two bytes; a static method with a handler, and an
-/// abstract one.
+/// A class file of one class R with an interface, three fields and two methods: a static int with two
+/// ConstantValues, a static long with one, an instance's boolean with one that isn't of two bytes; a
+/// static method with a handler, and an abstract one.
 static RICH: [u8; 261] = [
     202, 254, 186, 190, 0, 3, 0, 50, 0, 18, 1, 0, 1, 82, 7, 0, 1, 1, 0, 16, 106, 97, 118, 97, 47,
     108, 97, 110, 103, 47, 79, 98, 106, 101, 99, 116, 7, 0, 3, 1, 0, 1, 97, 1, 0, 1, 73, 1, 0, 13,
@@ -541,8 +541,8 @@ static METHODS: [(u16, &str, u16, &str, u16, u64); 2] = [
     (0x0400, "b", 9, "()V", 14, 237),
 ];
 
-/// A method: its name and descriptor, and of its code the most values on the stack, how many locals it has, how many
-/// bytes and how many handlers.
+/// A method: its name and descriptor, and of its code the most values on the stack, how many locals it
+/// has, how many bytes and how many handlers.
 type Row = (&'static str, &'static str, Option<(u16, u16, usize, usize)>);
 
 /// Class files from a compiler, with the name of the class, how many fields it has, and its methods.
@@ -732,8 +732,8 @@ fn constants_are_initial_ints(rt: HostRuntime) -> Result<(), Fail> {
 /// How many fields a large file has.
 const MANY: u16 = 65_000;
 
-/// The beginning of a class file up to its fields: a class R, a long name, and a descriptor for each field, of three
-/// letters; their numbers begin at 6.
+/// The beginning of a class file up to its fields: a class R, a long name, and a descriptor for each
+/// field, of three letters; their numbers begin at 6.
 fn beginning(out: &mut Out) -> Result<(), AllocError> {
     out.slice(&[0xca, 0xfe, 0xba, 0xbe, 0, 0, 0, 52])?;
     out.u2(6 + MANY)?;

@@ -215,8 +215,8 @@ fn with_entry(alloc: Global, entry: &[u8]) -> Result<Vec<u8>, AllocError> {
     Ok(bytes)
 }
 
-/// The tag, its number that is tried and the other one where it has two, whether the first is tried, and the tag that
-/// is wanted there.
+/// The tag, its number that is tried and the other one where it has two, whether the first is tried, and
+/// the tag that is wanted there.
 static REFERENCES: [(u8, Option<u8>, bool, u8); 10] = [
     (7, None, true, 1),
     (8, None, true, 1),

@@ -7,8 +7,8 @@ use ms_pool::Pool;
 use std::alloc::{AllocError, Global};
 use std::marker::Model;
 
-/// A number for each text of a pool, by its number in the pool. Equal texts have the same, others have others: so that
-/// two names are compared without their bytes.
+/// A number for each text of a pool, by its number in the pool. Equal texts have the same, others have
+/// others: so that two names are compared without their bytes.
 #[derive(Debug, Drop)]
 pub struct Texts {
     numbers: Vec<usize>,
@@ -22,8 +22,8 @@ impl Model for Texts {
     ghost view = { λ texts. texts.numbers.items };
 }
 
-/// The place of the text of this number among the texts, which get it where they lack it, and 0 where none has the
-/// number.
+/// The place of the text of this number among the texts, which get it where they lack it, and 0 where
+/// none has the number.
 fn number_in<'a>(
     texts: &mut IndexSet<&'a [u8]>,
     pool: &Pool<'a>,
