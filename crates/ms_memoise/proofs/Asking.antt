@@ -1,7 +1,7 @@
 -- What the shelf was asked for since the lines that were done.
 use Rattle.std.proofs.Common.{◌≡◌, ℕ, zero, suc, ◌+◌, List, [], ◌∷◌, ◌++◌, length, Option, Some, None, slice_get, refl, sym, ap, ◌∙◌, subst, arith, append-nil, suc-add}
 use Rattle.std.specs.Prelude.{zip}
-use Rattle.ms_outside.specs.Shelves.{Answer}
+use Rattle.ms_outside.specs.Shelves.{Asking}
 use Rattle.ms_session.specs.Outside.{AsksSome, ShelfSide}
 use Rattle.ms_memoise.specs.Conversations.{AsksNext, names_of_next}
 
@@ -15,7 +15,7 @@ pub get_behind : (xs ys : List (List ℕ)) (n : ℕ) → slice_get (xs ++ ys) (l
 get_behind [] ys n = ap (slice_get ys) (omega arith)
 get_behind (x ∷ xs) ys n = rw suc-add (get_behind xs ys n)
 
-no_answers : (names : List (List ℕ)) → ◌≡◌ {A = List (List ℕ × Answer)} (zip names []) []
+no_answers : (names : List (List ℕ)) → ◌≡◌ {A = List Asking} (zip names []) []
 no_answers [] = refl
 no_answers (name ∷ names) = refl
 

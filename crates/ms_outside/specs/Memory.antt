@@ -1,8 +1,8 @@
 -- Sources, sinks and shelves in memory: what they hold, and how a call changes it.
-use Rattle.std.specs.Prelude.{ℕ, ◌+◌, ◌-◌, ◌^◌, ◌<◌, ◌==◌, List, ◌++◌, Bool, if◌then◌else◌, min, length, drop}
+use Rattle.std.specs.Prelude.{ℕ, ◌+◌, ◌-◌, ◌^◌, ◌<◌, ◌==◌, List, [], ◌∷◌, ◌++◌, Bool, if◌then◌else◌, min, length, drop}
 use Rattle.std.specs.List.{list_any}
 use Rattle.ms_outside.specs.Counts.{ShelfCounts}
-use Rattle.ms_outside.specs.Shelves.{File, Answer, Absent, TooLong, Found, answered, asked_with}
+use Rattle.ms_outside.specs.Shelves.{File, Answer, Absent, TooLong, Found, Asking, answered}
 use Rattle.ms_outside.specs.declared.shelf.Fetch.{Fetch}
 use Rattle.ms_outside.specs.declared.shelf.Fetch.TheVariants as fetched
 
@@ -26,7 +26,7 @@ pub record ShelfState : Type 0 where
   pub files : List File
   pub fails : List ℕ
   pub calls : ℕ
-  pub asked : List (List ℕ × Answer)
+  pub asked : List Asking
   pub counts : ShelfCounts
 
 -- a count of 64 bits that is raised by one; at its last value it stands still
@@ -66,7 +66,7 @@ counts_after old fetched.NoMemory = old
 -- the shelf after a fetch of this name with this result
 abbrev pub shelf_after : ShelfState → List ℕ → Fetch → ShelfState
 shelf_after old name result =
-    record old { calls = raised old.calls; asked = old.asked ++ asked_with name (answered result); counts = counts_after old.counts result }
+    record old { calls = raised old.calls; asked = old.asked ++ (name, answered result) ∷ []; counts = counts_after old.counts result }
 
 -- this answer has bytes, for which a fetch takes memory
 abbrev pub HasBytes : Answer → Type 0
@@ -78,7 +78,7 @@ HasBytes (Found bytes) = 0 < length bytes
 -- of a name, and how often one that is too long
 pub record SureShelfState : Type 0 where
   pub files : List File
-  pub asked : List (List ℕ × Answer)
+  pub asked : List Asking
   pub misses : ℕ
   pub overlong : ℕ
 
@@ -88,12 +88,12 @@ sure_counts shelf = record { faults = 0; misses = shelf.misses; overlong = shelf
 
 -- that shelf with what it was asked by a fetch of this name with this result
 abbrev pub with_asked : SureShelfState → List ℕ → Fetch → SureShelfState
-with_asked old name result = record old { asked = old.asked ++ asked_with name (answered result) }
+with_asked old name result = record old { asked = old.asked ++ (name, answered result) ∷ [] }
 
 -- that shelf after a fetch of this name with this result
 abbrev pub sure_shelf_after : SureShelfState → List ℕ → Fetch → SureShelfState
 sure_shelf_after old name (fetched.Bytes bytes) = with_asked old name (fetched.Bytes bytes)
 sure_shelf_after old name fetched.Absent = record (with_asked old name fetched.Absent) { misses = raised old.misses }
 sure_shelf_after old name fetched.TooLong = record (with_asked old name fetched.TooLong) { overlong = raised old.overlong }
-sure_shelf_after old name fetched.Failed = old
-sure_shelf_after old name fetched.NoMemory = old
+sure_shelf_after old name fetched.Failed = with_asked old name fetched.Failed
+sure_shelf_after old name fetched.NoMemory = with_asked old name fetched.NoMemory

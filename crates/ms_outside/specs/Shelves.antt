@@ -1,5 +1,5 @@
 -- Files by name, and what a shelf answers.
-use Rattle.std.specs.Prelude.{◌≡◌, ℕ, ◌≤◌, List, [], ◌∷◌, Option, Some, None, nat_lt, if◌then◌else◌, length, find}
+use Rattle.std.specs.Prelude.{◌≡◌, ℕ, ◌≤◌, List, Option, Some, None, nat_lt, if◌then◌else◌, length, find}
 use Rattle.std.specs.Str.{bytes_eq}
 use Rattle.std.specs.Option.{option_map}
 use Rattle.ms_outside.specs.Counts.{ShelfCounts, CountsGrow, Rose}
@@ -45,10 +45,9 @@ answered fetched.TooLong = Some TooLong
 answered fetched.Failed = None
 answered fetched.NoMemory = None
 
--- what a fetch adds to the list of the names that a shelf was asked for, each with its answer: nothing where it brought none
-abbrev pub asked_with : List ℕ → Option Answer → List (List ℕ × Answer)
-asked_with name None = []
-asked_with name (Some answer) = (name, answer) ∷ []
+-- a name that a shelf was asked for, with the answer that it gave, if it gave one
+abbrev pub Asking : Type 0
+Asking = List ℕ × Option Answer
 
 -- an answer has at most as many bytes as a shelf hands out
 abbrev pub IsWithinLimit : Answer → Type 0

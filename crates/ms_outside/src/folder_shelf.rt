@@ -1,7 +1,7 @@
-ghost use Rattle.std.specs.Prelude.{◌≡◌, ◌≢◌, ◌++◌, [], IfOk, IfErr, IfSome, OnOk, IsUtf8, None, Some};
+ghost use Rattle.std.specs.Prelude.{◌≡◌, ◌≢◌, ◌∷◌, ◌++◌, [], IfOk, IfErr, IfSome, OnOk, IsUtf8, None, Some};
 ghost use Rattle.std.specs.IoError.{error_kind};
 ghost use Rattle.ms_outside.specs.Histories.{ShelfHistory};
-ghost use Rattle.ms_outside.specs.Shelves.{FetchHasCauses, IsWithinLimit, answer_of_contents, answered, asked_with};
+ghost use Rattle.ms_outside.specs.Shelves.{FetchHasCauses, IsWithinLimit, answer_of_contents, answered};
 ghost use Rattle.ms_outside.specs.Memory.{counts_after};
 ghost use Rattle.ms_outside.specs.Folders.{open_answer, read_answer};
 
@@ -56,7 +56,7 @@ impl<R: Files + Drop> Shelf for FolderShelf<R> {
     fn fetch(&mut self, alloc: Global, name: &[u8]) -> Fetch
         ensures size { IfSome (answered result) IsWithinLimit }
         ensures causes { FetchHasCauses self.old.counts self.new.counts result }
-        ensures asked { self.new.asked ≡ self.old.asked ++ asked_with name.now (answered result) }
+        ensures asked { self.new.asked ≡ self.old.asked ++ (name.now, answered result) ∷ [] }
         ensures after { self.new.counts ≡ counts_after self.old.counts result }
         ensures no_text { ¬ IsUtf8 name.now → result ≡ Fetch.Absent }
     {

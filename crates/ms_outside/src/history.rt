@@ -1,6 +1,6 @@
-ghost use Rattle.std.specs.Prelude.{◌≡◌, ◌++◌, [], fold};
+ghost use Rattle.std.specs.Prelude.{◌≡◌, ◌∷◌, ◌++◌, [], fold};
 ghost use Rattle.ms_outside.specs.Histories.{with_byte};
-ghost use Rattle.ms_outside.specs.Shelves.{answered, asked_with};
+ghost use Rattle.ms_outside.specs.Shelves.{answered};
 
 use crate::Fetch;
 use http_server::Log;
@@ -15,11 +15,11 @@ pub(crate) struct History {
 }
 
 impl Model for History {
-    ghost use Rattle.std.specs.Prelude.{ℕ, List};
+    ghost use Rattle.std.specs.Prelude.{List};
     ghost use Rattle.ms_outside.specs.Histories.{asked_in};
-    ghost use Rattle.ms_outside.specs.Shelves.{Answer};
+    ghost use Rattle.ms_outside.specs.Shelves.{Asking};
 
-    ghost Value = { List (List ℕ × Answer) };
+    ghost Value = { List Asking };
 
     ghost view = { λ history. asked_in history.notes.items };
 }
@@ -32,22 +32,18 @@ impl History {
         History { notes: Log::new() }
     }
 
-    /// Adds the name of a fetch with its answer, where it brought one.
+    /// Adds the name of a fetch with its answer, if it brought one.
+    #[tactic(auto, using(crate::proofs::Histories::named))]
     pub(crate) fn add(&mut self, name: &[u8], fetched: &Fetch)
-        ensures { self.new ≡ self.old ++ asked_with name.now (answered fetched.now) }
+        ensures { self.new ≡ self.old ++ (name.now, answered fetched.now) ∷ [] }
     {
-        match fetched {
-            Fetch::Bytes(_) | Fetch::Absent | Fetch::TooLong => {
-                self.begin(fetched);
-                self.add_name(name, fetched);
-            }
-            Fetch::Failed | Fetch::NoMemory => {}
-        }
+        self.begin(fetched);
+        self.add_name(name, fetched);
     }
 
     /// Begins with the answer of a fetch. The name is empty yet.
     fn begin(&mut self, fetched: &Fetch)
-        ensures { self.new ≡ self.old ++ asked_with [] (answered fetched.now) }
+        ensures { self.new ≡ self.old ++ ([], answered fetched.now) ∷ [] }
     {
         self.notes = self.notes.and(&None, fetched);
     }

@@ -1,5 +1,5 @@
-ghost use Rattle.std.specs.Prelude.{◌≡◌, ◌↔◌, ◌++◌, [], Some, IfSome, IsTrue};
-ghost use Rattle.ms_outside.specs.Shelves.{FetchHasCauses, IsWithinLimit, answer_of, answered, asked_with};
+ghost use Rattle.std.specs.Prelude.{◌≡◌, ◌↔◌, ◌∷◌, ◌++◌, [], Some, IfSome, IsTrue};
+ghost use Rattle.ms_outside.specs.Shelves.{FetchHasCauses, IsWithinLimit, answer_of, answered};
 ghost use Rattle.ms_outside.specs.Memory.{ShelfState, HasBytes, is_listed, raised, shelf_after};
 
 use crate::calls::Calls;
@@ -51,7 +51,7 @@ impl Shelf for MemoryShelf {
         ensures size { IfSome (answered result) IsWithinLimit }
         ensures files { self.new.files ≡ self.old.files }
         ensures causes { FetchHasCauses self.old.counts self.new.counts result }
-        ensures asked { self.new.asked ≡ self.old.asked ++ asked_with name.now (answered result) }
+        ensures asked { self.new.asked ≡ self.old.asked ++ (name.now, answered result) ∷ [] }
         ensures listed { (result ≡ Fetch.Failed) ↔ IsTrue (is_listed self.old.fails (raised self.old.calls)) }
         ensures memory { result ≡ Fetch.NoMemory → HasBytes (answer_of self.old.files name.now) }
         ensures after { self.new ≡ shelf_after self.old name.now result }

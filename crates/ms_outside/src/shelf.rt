@@ -1,6 +1,6 @@
-ghost use Rattle.std.specs.Prelude.{◌≡◌, ◌++◌, ℕ, List, Option, IfSome};
+ghost use Rattle.std.specs.Prelude.{◌≡◌, ◌∷◌, ◌++◌, [], List, Option, IfSome};
 ghost use Rattle.ms_outside.specs.Counts.{ShelfCounts};
-ghost use Rattle.ms_outside.specs.Shelves.{Answer, File, FetchHasCauses, IsWithinLimit, answer_of, answered, asked_with};
+ghost use Rattle.ms_outside.specs.Shelves.{Asking, File, FetchHasCauses, IsWithinLimit, answer_of, answered};
 
 use std::alloc::Global;
 
@@ -31,9 +31,9 @@ pub trait Shelf {
     /// ever falls, and each stands still at 2^64 - 1.
     ghost counts: { Self → ShelfCounts };
 
-    /// The names that it was asked for, each with the answer that it gave, one after another. A fetch
-    /// that brought no answer isn't among them.
-    ghost asked: { Self → List (List ℕ × Answer) };
+    /// The names that it was asked for, one after another, each with the answer that it gave, if it gave
+    /// one.
+    ghost asked: { Self → List Asking };
 
     /// The bytes of the file of this name. It changes no file.
     fn fetch(&mut self, alloc: Global, name: &[u8]) -> Fetch
@@ -42,5 +42,5 @@ pub trait Shelf {
         ensures size { IfSome (answered result) IsWithinLimit }
         ensures files { files self.new ≡ files self.old }
         ensures causes { FetchHasCauses (counts self.old) (counts self.new) result }
-        ensures asked { asked self.new ≡ asked self.old ++ asked_with name.now (answered result) };
+        ensures asked { asked self.new ≡ asked self.old ++ (name.now, answered result) ∷ [] };
 }

@@ -1,5 +1,5 @@
-ghost use Rattle.std.specs.Prelude.{◌≡◌, ◌≢◌, ◌++◌, [], Some, IfSome};
-ghost use Rattle.ms_outside.specs.Shelves.{FetchHasCauses, IsWithinLimit, answer_of, answered, asked_with};
+ghost use Rattle.std.specs.Prelude.{◌≡◌, ◌≢◌, ◌∷◌, ◌++◌, [], Some, IfSome};
+ghost use Rattle.ms_outside.specs.Shelves.{FetchHasCauses, IsWithinLimit, answer_of, answered};
 ghost use Rattle.ms_outside.specs.Memory.{SureShelfState, HasBytes, sure_counts, sure_shelf_after};
 
 use crate::shelves::fetch_from;
@@ -46,7 +46,7 @@ impl Shelf for SureShelf {
         ensures size { IfSome (answered result) IsWithinLimit }
         ensures files { self.new.files ≡ self.old.files }
         ensures causes { FetchHasCauses (sure_counts self.old) (sure_counts self.new) result }
-        ensures asked { self.new.asked ≡ self.old.asked ++ asked_with name.now (answered result) }
+        ensures asked { self.new.asked ≡ self.old.asked ++ (name.now, answered result) ∷ [] }
         ensures sure { result ≢ Fetch.Failed }
         ensures memory { result ≡ Fetch.NoMemory → HasBytes (answer_of self.old.files name.now) }
         ensures after { self.new ≡ sure_shelf_after self.old name.now result }

@@ -1,5 +1,5 @@
-ghost use Rattle.std.specs.Prelude.{◌≡◌, [], ◌++◌};
-ghost use Rattle.ms_outside.specs.Shelves.{FetchHasCauses, answered, asked_with};
+ghost use Rattle.std.specs.Prelude.{◌≡◌, [], ◌∷◌, ◌++◌};
+ghost use Rattle.ms_outside.specs.Shelves.{FetchHasCauses, answered};
 ghost use Rattle.ms_outside.specs.Memory.{counts_after};
 
 use crate::Fetch;
@@ -37,9 +37,9 @@ impl Tally {
         }
     }
 
-    /// Adds the name with its answer, where there is one, and raises the count that tells of it, if one does.
+    /// Adds the name with its answer, if there is one, and raises the count that tells of it, if one does.
     pub(crate) fn count(&mut self, name: &[u8], fetched: &Fetch)
-        ensures asked { self.new.asked ≡ self.old.asked ++ asked_with name.now (answered fetched.now) }
+        ensures asked { self.new.asked ≡ self.old.asked ++ (name.now, answered fetched.now) ∷ [] }
         ensures after { self.new.counts ≡ counts_after self.old.counts fetched.now }
         ensures causes { FetchHasCauses self.old.counts self.new.counts fetched.now }
     {

@@ -14,7 +14,7 @@ use Rattle.ms_session.specs.Outside.{AreAnswers, AsksSome, ShelfPasses, ShelfSid
 use Rattle.ms_session.specs.Commands.{AsksAt, Done, IsPartFor, IsReached, Stopped, StopsFor}
 use Rattle.ms_session.specs.Writing.{HasText, WriteCause, WriteStops}
 use Rattle.ms_session.proofs.Writing.{short_take, take_of_take}
-use Rattle.std.specs.Prelude.{ℤ, cond, codes, not, Result, Ok, Err, IfOk, IsOk, IsErr, IfSome, MatchResult}
+use Rattle.std.specs.Prelude.{ℤ, cond, codes, map, not, Result, Ok, Err, IfOk, IsOk, IsErr, IsErrAnd, IfSome, MatchResult}
 use Rattle.std.specs.Str.{bytes_eq}
 use Rattle.std.specs.List.{list_all}
 use Rattle.std.specs.Global.{Vec}
@@ -29,7 +29,7 @@ use Rattle.ms_trie.specs.declared.row.PathRow.{PathRow}
 use Rattle.ms_session.specs.Paths.{report}
 use Rattle.ms_session.specs.States.{State, class_named, is_boolean}
 use Rattle.ms_session.specs.Steps.{entry_next, explore_next, how_far, is_entry, is_unfinished, names_in, next, once_reply, report_next, reported}
-use Rattle.ms_session.specs.Sessions.{FetchCause, IsShort, Leads, Prepared, PrepareStops, Says, classes_in, entry_in, listed, output_text}
+use Rattle.ms_session.specs.Sessions.{FetchCause, IsShort, Leads, Prepared, PrepareStops, Says, Unanswered, classes_in, entry_in, listed, output_text}
 
 -- the entry is the method of the file
 pub entry_is : (has_entry : Bool) (file : Option (Vec ℕ)) (bytes : Vec ℕ) (method : Method) → has_entry ≡ true → file ≡ Some bytes → thin_method bytes.items ≡ Some method → entry_in has_entry file ≡ Some method
@@ -133,7 +133,7 @@ stopped_late stop command state state_now output shelf shelf_now sink sink_now p
       stops = both.0;
       at_stop = both.1;
       asked = write_asks stop command sink.faults sink_now.faults s.cause;
-      some = record { answers = p.answers; asked = p.given.asked };
+      some = record { answers = map Some p.answers; asked = p.given.asked };
       unasked = p.unasked;
       passes = record { on_shelf = p.passes; writes = s.grows };
     }
@@ -181,6 +181,26 @@ none_asked at = record { each = refl; asked = sym (append-nil at.asked); size = 
 pub same_shelf : (at : ShelfSide) → ShelfPasses at at
 same_shelf at = record { files = refl; fetches = record { faults = omega arith; misses = omega arith; overlong = omega arith } }
 
+-- a fetch of the one name of a command brought no answer
+unanswered : (stop : Stop) (command : Command) (file : List ℕ) (before now : ShelfSide) → names_in command ≡ file ∷ [] → Unanswered stop file before now → PrepareStops stop command before now
+unanswered stop command file before now one u = record {
+  fetch = u.fetch;
+  asked = asks_at stop;
+  some = subst (AsksSome before now) (sym one) (record { answers = None ∷ []; asked = u.asked });
+  unasked = λ none. absurd (let both = sym none ∙ one in cc);
+}
+  where
+    asks_at : (s : Stop) → AsksAt s command
+    asks_at stops.ShelfFault = λ none. let both = sym none ∙ one in cc
+    asks_at stops.WriteFault = tt
+    asks_at stops.NoMemory = tt
+
+-- so the command stopped
+pub stopped_unanswered : (stop : Stop) (command : Command) (file : List ℕ) (state state_now : State) (before now : ShelfSide) (result : Result Output Stop) → names_in command ≡ file ∷ [] → Unanswered stop file before now
+    → IsErrAnd result (λ s. s ≡ stop) → MatchResult result (λ output. Prepared command state state_now output before now) (λ s. PrepareStops s command before now)
+stopped_unanswered stop command file state state_now before now (Ok output) one u is = absurd is
+stopped_unanswered stop command file state state_now before now (Err s) one u is = subst (λ z. PrepareStops z command before now) (sym is) (unanswered stop command file before now one u)
+
 -- what becomes of a reply, or of want of memory
 abbrev pub Replied : Result reply.Reply AllocError → Result Output Stop → Type 0
 Replied answer result = MatchResult result (λ output. IfOk answer (λ r. output ≡ Reply r) × IsOk answer) (λ stop. (stop ≡ stops.NoMemory) × IsErr answer)
@@ -199,7 +219,7 @@ replied_so command state state_now answers before now (Ok r) (Ok output) is says
 }
 replied_so command state state_now answers before now (Err none) (Ok output) is says given passes calm unasked = absurd (let none = is.1 in cc)
 replied_so command state state_now answers before now answer (Err stop) is says given passes calm unasked =
-    subst (λ s. PrepareStops s command before now) (sym is.0) (record { fetch = record { cause = calm; passes = passes }; asked = tt; some = record { answers = answers; asked = given.asked }; unasked = unasked })
+    subst (λ s. PrepareStops s command before now) (sym is.0) (record { fetch = record { cause = calm; passes = passes }; asked = tt; some = record { answers = map Some answers; asked = given.asked }; unasked = unasked })
 
 pub once_said : (state : State) (file name desc : List ℕ) (words : List ℤ) (answer : Answer) (result : Result reply.Reply AllocError) → IfOk result (λ r. r ≡ once_reply file name desc words answer)
     → IfOk result (λ r. Says (next state (commands.Once file name desc words) (answer ∷ [])) r state)

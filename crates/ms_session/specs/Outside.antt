@@ -1,19 +1,19 @@
 -- The shelf and the sink at a moment, and what a command did with them.
-use Rattle.std.specs.Prelude.{◌≡◌, ℕ, ◌≤◌, List, ◌++◌, length, map, zip, Option, IfSome}
+use Rattle.std.specs.Prelude.{◌≡◌, ℕ, ◌≤◌, List, ◌++◌, length, map, zip, Option, Some, IfSome}
 use Rattle.std.specs.List.{AllByRecursion}
 use Rattle.ms_outside.specs.Counts.{CountsGrow, ShelfCounts, Rose}
 use Rattle.ms_outside.specs.Shelves as shelves
-use Rattle.ms_outside.specs.Shelves.{Answer, File, IsWithinLimit, answer_of}
+use Rattle.ms_outside.specs.Shelves.{Answer, Asking, File, IsWithinLimit, answer_of}
 
 -- a shelf at a moment: its files, where it tells them, its counts, and the names that it was asked for so far, each with the
--- answer that it gave
+-- answer that it gave, if it gave one
 pub record ShelfSide : Type 0 where
   pub files : Option (List File)
   pub counts : ShelfCounts
-  pub asked : List (List ℕ × Answer)
+  pub asked : List Asking
 
 -- a shelf by its parts
-abbrev pub shelf_side : Option (List File) → ShelfCounts → List (List ℕ × Answer) → ShelfSide
+abbrev pub shelf_side : Option (List File) → ShelfCounts → List Asking → ShelfSide
 shelf_side files counts asked = record { files = files; counts = counts; asked = asked }
 
 -- a sink at a moment: what it has taken, where it tells that, and its count of faults
@@ -36,16 +36,16 @@ HasCauseFor before now (shelves.Found bytes) = Unit {0}
 pub record AreAnswers (before now : ShelfSide) (names : List (List ℕ)) (answers : List Answer) : Type 0 where
   -- there is one answer to each name
   pub each : length answers ≡ length names
-  pub asked : now.asked ≡ before.asked ++ zip names answers
+  pub asked : now.asked ≡ before.asked ++ zip names (map Some answers)
   pub size : AllByRecursion IsWithinLimit answers
   pub causes : AllByRecursion (HasCauseFor before now) answers
   -- where the shelf tells its files, the answers are theirs
   pub told : IfSome before.files (λ files. answers ≡ map (answer_of files) names)
 
 -- Between the two moments the shelf was asked for some first ones of these names, once each and in this order, and for no
--- others.
+-- others, whether it gave an answer or not.
 pub record AsksSome (before now : ShelfSide) (names : List (List ℕ)) : Type 0 where
-  pub answers : List Answer
+  pub answers : List (Option Answer)
   pub asked : now.asked ≡ before.asked ++ zip names answers
 
 -- no count of the shelf fell, and it has the files that it had

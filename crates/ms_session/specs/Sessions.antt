@@ -1,5 +1,5 @@
 -- For private functions: what a session keeps, and what it is about to write.
-use Rattle.std.specs.Prelude.{◌≡◌, ℕ, ◌≤◌, List, [], ◌∷◌, length, Bool, true, false, IsTrue, Option, Some, None, is_some}
+use Rattle.std.specs.Prelude.{◌≡◌, ℕ, ◌≤◌, List, [], ◌∷◌, ◌++◌, length, Bool, true, false, IsTrue, Option, Some, None, is_some}
 use Rattle.std.specs.List.{list_all}
 use Rattle.std.specs.Global.{Vec}
 use Rattle.ms_outside.specs.Counts.{Rose}
@@ -116,10 +116,10 @@ pub record FetchStops (stop : Stop) (before now : ShelfSide) : Type 0 where
   pub cause : FetchCause stop before now
   pub passes : ShelfPasses before now
 
--- a fetch that brought no answer stopped it
-pub record Unanswered (stop : Stop) (before now : ShelfSide) : Type 0 where
+-- a fetch of this name, which brought no answer, stopped it
+pub record Unanswered (stop : Stop) (file : List ℕ) (before now : ShelfSide) : Type 0 where
   pub fetch : FetchStops stop before now
-  pub asked : now.asked ≡ before.asked
+  pub asked : now.asked ≡ before.asked ++ (file, None) ∷ []
 
 -- ---- COMMANDS
 

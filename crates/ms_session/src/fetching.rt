@@ -22,7 +22,7 @@ pub enum Fetched {
 pub fn ask<F: Shelf>(alloc: Global, file: &Name, shelf: &mut F) -> Result<Fetched, Stop>
     ensures { MatchResult result
         (λ found. IsGiven file.now (answer_in found) (shelf_side (F.files shelf.old) (F.counts shelf.old) (F.asked shelf.old)) (shelf_side (F.files shelf.new) (F.counts shelf.new) (F.asked shelf.new)))
-        (λ stop. Unanswered stop (shelf_side (F.files shelf.old) (F.counts shelf.old) (F.asked shelf.old)) (shelf_side (F.files shelf.new) (F.counts shelf.new) (F.asked shelf.new))) }
+        (λ stop. Unanswered stop file.now (shelf_side (F.files shelf.old) (F.counts shelf.old) (F.asked shelf.old)) (shelf_side (F.files shelf.new) (F.counts shelf.new) (F.asked shelf.new))) }
 {
     match shelf.fetch(alloc, file.bytes()) {
         Fetch::Bytes(bytes) => Ok(Fetched::Bytes(bytes)),

@@ -6,7 +6,7 @@ use Rattle.ms_command.specs.declared.reply.Reply.TheVariants.{Quitting}
 use Rattle.ms_session.specs.declared.output.Output.TheVariants.{Nothing, Reply}
 use Rattle.ms_session.specs.Outside.{shelf_side}
 use Rattle.ms_session.specs.Sessions.{Prepared, PrepareStops, answer_in}
-use Rattle.ms_session.proofs.Sessions.{kept_so, none_asked, once_said, prepared_unasked, replied_so, same_shelf}
+use Rattle.ms_session.proofs.Sessions.{kept_so, none_asked, once_said, prepared_unasked, replied_so, same_shelf, stopped_unanswered}
 use Rattle.ms_session.proofs.session.Session.prepare.Goals as goal
 
 pub returns-in_ok-found-in-Once : goal.returns-in_ok-found-in-Once
@@ -64,3 +64,17 @@ returns-in-Report g c =
     let before = shelf_side (g.F.Shelf.files c.args.shelf.now) (g.F.Shelf.counts c.args.shelf.now) (g.F.Shelf.asked c.args.shelf.now) in
     subst (λ (command : Command). MatchResult c.kept.result (λ output. Prepared command c.args.self.now c.args.self.now output before before) (λ stop. PrepareStops stop command before before)) (sym c.in-Report.is)
     (kept_so commands.Report c.args.self.now c.args.self.now before c.report.result c.kept.result refl c.kept.ensures c.report.ensures.leads c.report.ensures.short)
+
+pub returns-in_err-found-in-Once : goal.returns-in_err-found-in-Once
+returns-in_err-found-in-Once g c =
+    let before = shelf_side (g.F.Shelf.files c.args.shelf.now) (g.F.Shelf.counts c.args.shelf.now) (g.F.Shelf.asked c.args.shelf.now) in
+    let now = shelf_side (g.F.Shelf.files c.ask.new.shelf) (g.F.Shelf.counts c.ask.new.shelf) (g.F.Shelf.asked c.ask.new.shelf) in
+    subst (λ (command : Command). MatchResult c.from_residual.result (λ output. Prepared command c.args.self.now c.args.self.now output before now) (λ stop. PrepareStops stop command before now)) (sym c.in-Once.is)
+    (stopped_unanswered c.in_err-found-in-Once.field-0.0 (commands.Once c.in-Once.file c.in-Once.name c.in-Once.desc c.in-Once.words) c.in-Once.file c.args.self.now c.args.self.now before now c.from_residual.result refl c.in_err-found-in-Once.ensures c.from_residual.ensures.1)
+
+pub returns-in_err-found-in-Class : goal.returns-in_err-found-in-Class
+returns-in_err-found-in-Class g c =
+    let before = shelf_side (g.F.Shelf.files c.args.shelf.now) (g.F.Shelf.counts c.args.shelf.now) (g.F.Shelf.asked c.args.shelf.now) in
+    let now = shelf_side (g.F.Shelf.files c.ask-in-Class.new.shelf) (g.F.Shelf.counts c.ask-in-Class.new.shelf) (g.F.Shelf.asked c.ask-in-Class.new.shelf) in
+    subst (λ (command : Command). MatchResult c.from_residual-in_err-found-in-Class.result (λ output. Prepared command c.args.self.now c.args.self.now output before now) (λ stop. PrepareStops stop command before now)) (sym c.in-Class.is)
+    (stopped_unanswered c.in_err-found-in-Class.field-0.0 (commands.Class c.in-Class.file) c.in-Class.file c.args.self.now c.args.self.now before now c.from_residual-in_err-found-in-Class.result refl c.in_err-found-in-Class.ensures c.from_residual-in_err-found-in-Class.ensures.1)
