@@ -70,6 +70,8 @@ pub fn read_thin(alloc: Global, bytes: &[u8]) -> Result<Option<ThinMethod<'_>>, 
 pub fn thin_files_are_read()
     // What is read is a thin file, spelled by all of the bytes.
     ensures read { (bytes : List ℕ) (method : Method) → All (λ byte. byte < 256) bytes → thin_method bytes ≡ Some method → IsThinFile bytes method }
+    // And what holds of each thin method holds of it.
+    ensures method { (bytes : List ℕ) (method : Method) → All (λ byte. byte < 256) bytes → thin_method bytes ≡ Some method → IsThinMethod method }
     // A thin file is read.
     ensures only { (bytes : List ℕ) (method : Method) → IsThinFile bytes method → thin_method bytes ≡ Some method }
     // The bytes determine the method.

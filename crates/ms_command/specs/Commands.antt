@@ -79,8 +79,8 @@ command_of_tokens (word ∷ arguments) =
 abbrev pub command_of : List ℕ → Result Command Reply
 command_of line = if is_plain line then command_of_tokens (tokens line) else Err NoLine
 
--- `Line`, `Command` and `Range` come where the reply to the line is NoLine (1), NoCommand (2) and Range (13); want of
--- memory may come for every other line than those of the first sort
+-- why a line is refused: as the reply to it says, NoLine (1), NoCommand (2) or Range (13); want of memory may come for any
+-- line but one that is refused as NoLine
 abbrev pub Refuses : CommandRefusal → Result Command Reply → Type 0
 Refuses refusals.Line found = found ≡ Err NoLine
 Refuses refusals.Command found = found ≡ Err NoCommand

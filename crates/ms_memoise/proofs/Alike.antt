@@ -7,9 +7,9 @@ use Rattle.std.specs.Io.KnownBytes.{Appends}
 use Rattle.ms_command.specs.Commands.{command_of}
 use Rattle.ms_command.specs.Lines.{most_line_bytes}
 use Rattle.ms_command.specs.declared.reply.Reply.TheVariants.{NoLine}
-use Rattle.ms_session.specs.Outside.{AreAnswers, AsksSome, ShelfSide, SinkSide}
+use Rattle.ms_session.specs.Outside.{AreAnswers, FetchesSome, ShelfSide, SinkSide}
 use Rattle.ms_session.specs.States.{State}
-use Rattle.ms_memoise.specs.Conversations.{AsksNext, IsNamedAt}
+use Rattle.ms_memoise.specs.Conversations.{FetchesNext, IsNamedAt}
 use Rattle.ms_session.specs.Steps.{Next}
 use Rattle.ms_memoise.specs.declared.status.Status.TheVariants.{Done, Usage, ReadFault, WriteFault, NoMemory, ShelfFault, TooMuchInput}
 use Rattle.ms_memoise.specs.declared.status.Status.{Status}
@@ -125,7 +125,7 @@ answered_so : (a b : ShelfSide) (event : Event) (line : List ℕ) → command_of
 answered_so a b event line same are = record {
   given = subst (λ command. AreAnswers a b (names_of command) event.answers) same are.given;
   passes = are.passes;
-  unasked = subst (λ command. names_of command ≡ [] → b ≡ a) same are.unasked;
+  unchanged = subst (λ command. names_of command ≡ [] → b ≡ a) same are.unchanged;
 }
 
 -- a line that is the same command does the same
@@ -180,12 +180,12 @@ named_alike NoMemory xs ys n alike p = tt
 named_alike ShelfFault xs ys n alike p = let found = alike_at xs ys n p.line alike p.is in record { line = found.other; is = found.there; names = subst (λ command. names_of command ≢ []) found.same p.names }
 named_alike TooMuchInput xs ys n alike p = tt
 
-asks_alike : (a b : ShelfSide) (xs ys : List (List ℕ)) (n : ℕ) → Alike xs ys → AsksNext a b xs n → AsksNext a b ys n
-asks_alike a b [] [] n alike p = p
-asks_alike a b [] (y ∷ ys) n alike p = absurd alike
-asks_alike a b (x ∷ xs) [] n alike p = absurd alike
-asks_alike a b (x ∷ xs) (y ∷ ys) zero alike p = subst (λ command. AsksSome a b (names_of command)) alike.0 p
-asks_alike a b (x ∷ xs) (y ∷ ys) (suc n) alike p = asks_alike a b xs ys n alike.1 p
+fetches_alike : (a b : ShelfSide) (xs ys : List (List ℕ)) (n : ℕ) → Alike xs ys → FetchesNext a b xs n → FetchesNext a b ys n
+fetches_alike a b [] [] n alike p = p
+fetches_alike a b [] (y ∷ ys) n alike p = absurd alike
+fetches_alike a b (x ∷ xs) [] n alike p = absurd alike
+fetches_alike a b (x ∷ xs) (y ∷ ys) zero alike p = subst (λ command. FetchesSome a b (names_of command)) alike.0 p
+fetches_alike a b (x ∷ xs) (y ∷ ys) (suc n) alike p = fetches_alike a b xs ys n alike.1 p
 
 pub broke_alike : (status : Status) (xs ys : List (List ℕ)) (x : State) (a b : ShelfSide) (s t : SinkSide) → Alike xs ys → Broke status xs x a b s t → Broke status ys x a b s t
 broke_alike status xs ys x a b s t alike p =
@@ -199,7 +199,7 @@ broke_alike status xs ys x a b s t alike p =
       begun = λ h. subst (λ m. Begun (state_after x found.others) p.at b ys m p.part) (sym found.many)
           (subst (λ y. Begun y p.at b ys n p.part) (sym (found.states x)) (begun_alike xs ys (state_after x p.events) p.at b n p.part alike (p.begun h)));
       named = subst (IsNamedAt status ys) (sym found.many) (named_alike status xs ys n alike p.named);
-      next = subst (AsksNext p.at b ys) (sym found.many) (asks_alike p.at b xs ys n alike p.next);
+      fetches = subst (FetchesNext p.at b ys) (sym found.many) (fetches_alike p.at b xs ys n alike p.fetches);
       answered = found.answered;
       rest = p.rest;
       wrote = subst (λ l. Appends s.taken t.taken (l ++ p.part)) (sym (found.texts x)) p.wrote;

@@ -15,10 +15,10 @@ use Rattle.ms_memoise.specs.declared.flow.Flow.TheVariants as flows
 use Rattle.ms_memoise.specs.declared.conversation.Turn.TheVariants as turns
 use Rattle.ms_memoise.specs.Lines.{whole_lines}
 use Rattle.ms_memoise.specs.Events.{has_quit, lines_of, text_after, up_to_quit}
-use Rattle.ms_memoise.specs.Conversations.{AsksNext, Conversation, Elapses, Exceeds, HasDone, HasCauseOf, IsNamedAt, IsReachedAt, IsRest, Leads, Outside, SourceSide}
+use Rattle.ms_memoise.specs.Conversations.{FetchesNext, Conversation, Elapses, Exceeds, HasDone, HasCauseOf, IsNamedAt, IsReachedAt, IsRest, Leads, Outside, SourceSide}
 use Rattle.ms_memoise.specs.Feeding.{Broke, Did, Fed, ended_lines, fed_kept}
 use Rattle.ms_memoise.specs.Turns.{AtLimit, Finishes, TurnBroke, Turned, last_lines}
-use Rattle.ms_memoise.proofs.Asking.{asks_before, asks_none, get_before}
+use Rattle.ms_memoise.proofs.Fetching.{fetches_before, fetches_none, get_before}
 use Rattle.ms_memoise.proofs.Handling.{did_both, did_broke, length_lines, named_before, no_more}
 use Rattle.ms_memoise.proofs.Spans.{rose_wider}
 use Rattle.ms_memoise.proofs.UpTo.{up_append, up_both, up_first, up_last, up_none}
@@ -118,7 +118,7 @@ did_leads input status all y a b s t are_first through p =
       first = p.lines ∙ sym (take-append_seam all f.0) ∙ ap (take (length all)) (sym f.1) ∙ ap (λ n. take n (up_to_quit (lines input))) (sym many);
       begun = λ h. absurd (through.0 h);
       named = through.1 _ _;
-      next = asks_none b b _ refl;
+      fetches = fetches_none b b _ refl;
     })
 
 conversation_did : (limit : ℕ) (status : Status) (bytes : List ℕ) (all : List (List ℕ)) (y : State) (o q : Outside) → Consumes o.source.left q.source.left bytes → AreFirst (Some bytes) all → AreFirst o.source.left all
@@ -150,7 +150,7 @@ broke_leads input status all a b s t are_first p =
           let begun = p.begun h in
           record { event = begun.event; line = ap (λ l. slice_get l (length p.events)) f.1 ∙ get_before all f.0 _ _ begun.line; answered = begun.answered; some = begun.some; begins = begun.begins };
       named = subst (λ l. IsNamedAt status l (length p.events)) (sym f.1) (named_before status all f.0 _ p.named);
-      next = subst (λ l. AsksNext p.at b l (length p.events)) (sym f.1) (asks_before p.at b all f.0 _ p.next);
+      fetches = subst (λ l. FetchesNext p.at b l (length p.events)) (sym f.1) (fetches_before p.at b all f.0 _ p.fetches);
     })
 
 conversation_broke : (limit : ℕ) (status : Status) (bytes : List ℕ) (all : List (List ℕ)) (o q : Outside) → Consumes o.source.left q.source.left bytes → AreFirst (Some bytes) all → AreFirst o.source.left all

@@ -11,7 +11,7 @@ use Rattle.ms_session.specs.Outside.{Calm, Passes, ShelfSide, SinkSide}
 use Rattle.ms_session.specs.States.{State}
 use Rattle.ms_memoise.specs.Events.{AreAnswered, Event, lines_of, next_of, state_after, text_after}
 use Rattle.ms_memoise.specs.Feeding.{Broke, Did, Stops}
-use Rattle.ms_memoise.proofs.Asking.{asks_before, asks_behind, asks_none, get_before, get_behind}
+use Rattle.ms_memoise.proofs.Fetching.{fetches_before, fetches_behind, fetches_none, get_before, get_behind}
 use Rattle.ms_memoise.proofs.Spans.{passes_later, rose_wider, shelf_same}
 
 pub did_nothing : (x : State) (a : ShelfSide) (s : SinkSide) → Did [] x x a a s s
@@ -69,7 +69,7 @@ broke_here all x a s = record {
   at = a;
   begun = λ h. absurd (omega arith);
   named = tt;
-  next = asks_none a a _ refl;
+  fetches = fetches_none a a _ refl;
   answered = refl;
   rest = shelf_same a;
   wrote = Appends-nil s.taken;
@@ -122,7 +122,7 @@ broke_before status xs ys x a b s t p = record {
   at = p.at;
   begun = λ h. let begun = p.begun h in record { event = begun.event; line = get_before xs ys _ _ begun.line; answered = begun.answered; some = begun.some; begins = begun.begins };
   named = named_before status xs ys _ p.named;
-  next = asks_before p.at b xs ys _ p.next;
+  fetches = fetches_before p.at b xs ys _ p.fetches;
   answered = p.answered;
   rest = p.rest;
   wrote = p.wrote;
@@ -149,7 +149,7 @@ did_broke status xs ys x y a b c s t u p q =
         begins = ap (λ z. take (length q.part) (next_of z begun.event).text) (sym (state_from x y p.events q.events p.state_is)) ∙ begun.begins;
       };
       named = named_behind status xs ys (length q.events) _ count q.named;
-      next = asks_behind q.at c xs ys (length q.events) _ count q.next;
+      fetches = fetches_behind q.at c xs ys (length q.events) _ count q.fetches;
       answered = answered_append a b q.at p.events q.events p.answered q.answered;
       rest = q.rest;
       wrote = subst (Appends s.taken u.taken) (sym (append_assoc (text_after x p.events) (text_after y q.events) q.part) ∙ ap (λ l. l ++ q.part) (text_from x y p.events q.events p.state_is))

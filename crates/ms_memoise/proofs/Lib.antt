@@ -1,6 +1,6 @@
 pub mod Spans
 pub mod UpTo
-pub mod Asking
+pub mod Fetching
 pub mod Handling
 pub mod Responding
 pub mod Fed

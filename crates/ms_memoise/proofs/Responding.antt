@@ -8,10 +8,10 @@ use Rattle.ms_command.specs.Commands.{command_of}
 use Rattle.ms_command.specs.Texts.{reply_text}
 use Rattle.ms_session.specs.declared.stop.Stop.{Stop}
 use Rattle.ms_session.specs.declared.stop.Stop.TheVariants as stops
-use Rattle.ms_session.specs.Commands.{AsksAt, IsPartFor, IsReached, StopsFor}
+use Rattle.ms_session.specs.Commands.{NamesFile, IsPartFor, IsReached, StopsFor}
 use Rattle.ms_session.proofs.Writing.{reply_has_text}
 use Rattle.ms_memoise.specs.Conversations.{IsNamedAt, IsReachedAt}
-use Rattle.ms_session.specs.Outside.{AreAnswers, AsksSome, ShelfPasses, ShelfSide, SinkSide}
+use Rattle.ms_session.specs.Outside.{AreAnswers, FetchesSome, ShelfPasses, ShelfSide, SinkSide}
 use Rattle.ms_session.specs.Steps.{names_in}
 use Rattle.ms_session.specs.States.{State}
 use Rattle.ms_memoise.specs.declared.status.Status.{Status}
@@ -19,17 +19,17 @@ use Rattle.ms_memoise.specs.declared.status.Status.TheVariants.{Done, Usage, Rea
 use Rattle.ms_memoise.specs.declared.flow.Flow.{Flow}
 use Rattle.ms_memoise.specs.Events.{IsAnswered, names_of, next_for, quits}
 use Rattle.ms_memoise.specs.Feeding.{Broke, Halted, Hushed, Hushes, IsFlow, IsPartAt, Ran, Responded, Said, Stops, status_of}
-use Rattle.ms_memoise.proofs.Asking.{asks_none}
+use Rattle.ms_memoise.proofs.Fetching.{fetches_none}
 use Rattle.ms_memoise.proofs.Spans.{shelf_same}
 
 -- A LINE THAT IS A COMMAND
 
 answered_by : (line : List ℕ) (command : Command) (a b : ShelfSide) (answers : List Answer) → command_of line ≡ Ok command → AreAnswers a b (names_in command) answers → ShelfPasses a b → (names_in command ≡ [] → b ≡ a)
     → IsAnswered a b (record { line = line; answers = answers })
-answered_by line command a b answers is given passes unasked = record {
+answered_by line command a b answers is given passes unchanged = record {
   given = subst (λ c. AreAnswers a b (names_of c) answers) (sym is) given;
   passes = passes;
-  unasked = subst (λ c. names_of c ≡ [] → b ≡ a) (sym is) unasked;
+  unchanged = subst (λ c. names_of c ≡ [] → b ≡ a) (sym is) unchanged;
 }
 
 ran : (flow : Flow) (line : List ℕ) (command : Command) (x y : State) (a b : ShelfSide) (s t : SinkSide) → command_of line ≡ Ok command → Ran flow command x y a b s t → Responded flow line x y a b s t
@@ -39,7 +39,7 @@ ran flow line command x y a b s t is r =
       did = record {
         events = record { line = line; answers = answers } ∷ [];
         lines = refl;
-        answered = record { between = b; answered = answered_by line command a b answers is r.done.given r.done.passes.on_shelf r.done.unasked; others = refl };
+        answered = record { between = b; answered = answered_by line command a b answers is r.done.given r.done.passes.on_shelf r.done.unchanged; others = refl };
         wrote = subst (λ c. Appends s.taken t.taken ((next_for x c answers).text ++ [])) (sym is) (subst (Appends s.taken t.taken) (sym (append-nil _)) r.done.wrote);
         state_is = r.done.state_is ∙ ap (λ c. (next_for x c answers).state) (sym is);
         passes = r.done.passes;
@@ -64,7 +64,7 @@ reached stops.ShelfFault part h = h
 reached stops.WriteFault part h = h
 reached stops.NoMemory part h = h
 
-names_at : (stop : Stop) (line : List ℕ) (command : Command) → command_of line ≡ Ok command → AsksAt stop command → IsNamedAt (status_of stop) (line ∷ []) 0
+names_at : (stop : Stop) (line : List ℕ) (command : Command) → command_of line ≡ Ok command → NamesFile stop command → IsNamedAt (status_of stop) (line ∷ []) 0
 names_at stops.ShelfFault line command is asks = record { line = line; is = refl; names = subst (λ c. names_of c ≢ []) (sym is) asks }
 names_at stops.WriteFault line command is asks = tt
 names_at stops.NoMemory line command is asks = tt
@@ -78,12 +78,12 @@ halted status line command x a b s t is h = record {
   begun = λ some. let begins = h.stopped.begun (reached h.stop h.stopped.part (subst (λ status. IsReachedAt status h.stopped.part) h.is some)) in record {
     event = record { line = line; answers = begins.answers };
     line = refl;
-    answered = answered_by line command a b begins.answers is begins.given h.stopped.passes.on_shelf h.stopped.unasked;
+    answered = answered_by line command a b begins.answers is begins.given h.stopped.passes.on_shelf h.stopped.unchanged;
     some = subst (λ c. 0 < length (next_for x c begins.answers).text) (sym is) begins.some;
     begins = ap (λ c. take (length h.stopped.part) (next_for x c begins.answers).text) is ∙ begins.first;
   };
-  named = subst (λ status. IsNamedAt status (line ∷ []) 0) (sym h.is) (names_at h.stop line command is h.stopped.asked);
-  next = subst (λ c. AsksSome a b (names_of c)) (sym is) h.stopped.some;
+  named = subst (λ status. IsNamedAt status (line ∷ []) 0) (sym h.is) (names_at h.stop line command is h.stopped.names);
+  fetches = subst (λ c. FetchesSome a b (names_of c)) (sym is) h.stopped.fetches;
   answered = refl;
   rest = h.stopped.passes.on_shelf;
   wrote = h.stopped.wrote;
@@ -112,7 +112,7 @@ none_of : (line : List ℕ) (reply : Reply) (a : ShelfSide) → command_of line 
 none_of line reply a is = record {
   given = subst (λ c. AreAnswers a a (names_of c) []) (sym is) (no_answers a);
   passes = shelf_same a;
-  unasked = λ none. refl;
+  unchanged = λ none. refl;
 }
 
 said : (flow : Flow) (line : List ℕ) (reply : Reply) (x : State) (a : ShelfSide) (s t : SinkSide) → command_of line ≡ Err reply → Said flow reply s t → Responded flow line x x a a s t
@@ -159,7 +159,7 @@ hushed status line reply x a s t is h =
         begins = ap (λ c. take (length part) (next_for x c []).text) is ∙ take_of_take h.many (reply_text reply);
       };
       named = (hushes status a s t part h.why).2 (line ∷ []);
-      next = asks_none a a _ refl;
+      fetches = fetches_none a a _ refl;
       answered = refl;
       rest = shelf_same a;
       wrote = h.wrote;

@@ -13,7 +13,7 @@ use Rattle.ms_memoise.specs.declared.status.Status.TheVariants.{Done, Usage, Rea
 use Rattle.ms_memoise.specs.Lines.{whole_lines}
 use Rattle.ms_memoise.specs.Events.{AreAnswered, Event, asked, event_of, has_quit, lines_of, replies, text_after, up_to_quit}
 use Rattle.ms_memoise.specs.Conversations.{Conversation, Exceeds, Fits, IsDoneUnlessRisen, IsOver, IsTooMuchUnlessRisen, Leads, Outside}
-use Rattle.ms_memoise.proofs.Asking.{asks_none}
+use Rattle.ms_memoise.proofs.Fetching.{fetches_none}
 use Rattle.ms_memoise.proofs.Spans.{counts_same}
 use Rattle.ms_memoise.proofs.UpTo.{has_first, up_first}
 use Rattle.ms_memoise.proofs.Scanning.{lines_append, lines_scanned, whole_append}
@@ -23,7 +23,7 @@ if_some_each None Q f = tt
 if_some_each (Some x) Q f = f x
 
 nothing_leads : (o : Outside) (input : List ℕ) → Leads Usage o.shelf o.shelf [] [] (up_to_quit (lines input))
-nothing_leads o input = record { first = refl; begun = λ h. absurd (omega arith); named = tt; next = asks_none o.shelf o.shelf _ refl }
+nothing_leads o input = record { first = refl; begun = λ h. absurd (omega arith); named = tt; fetches = fetches_none o.shelf o.shelf _ refl }
 
 -- nothing was read, done or written
 pub conversation_of_usage : (limit : ℕ) (o : Outside) → Conversation limit o o Usage

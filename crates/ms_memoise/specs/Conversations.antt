@@ -3,7 +3,7 @@ use Rattle.std.specs.Prelude.{◌≡◌, ◌≢◌, ℕ, ◌+◌, ◌<◌, ◌�
 use Rattle.std.specs.Str.Lines.{lines}
 use Rattle.std.specs.Io.KnownBytes.{Appends, Consumes, IsAtEnd}
 use Rattle.ms_outside.specs.Counts.{CountsGrow, Rose}
-use Rattle.ms_session.specs.Outside.{AsksSome, ShelfPasses, ShelfSide, SinkSide, sink_side}
+use Rattle.ms_session.specs.Outside.{FetchesSome, ShelfPasses, ShelfSide, SinkSide, sink_side}
 use Rattle.ms_session.specs.States.{State, new_state}
 use Rattle.ms_memoise.specs.declared.status.Status.{Status}
 use Rattle.ms_memoise.specs.declared.status.Status.TheVariants.{Done, Usage, ReadFault, WriteFault, NoMemory, ShelfFault, TooMuchInput}
@@ -113,8 +113,8 @@ names_of_next None = []
 names_of_next (Some line) = asked line
 
 -- the shelf was asked for some first ones of the names in the line after those that were done, and for no others
-abbrev pub AsksNext : ShelfSide → ShelfSide → List (List ℕ) → ℕ → Type 0
-AsksNext before now all done = AsksSome before now (names_of_next (slice_get all done))
+abbrev pub FetchesNext : ShelfSide → ShelfSide → List (List ℕ) → ℕ → Type 0
+FetchesNext before now all done = FetchesSome before now (names_of_next (slice_get all done))
 
 -- The lines done are the first ones of these, from a new session on, and what was begun is the reply to
 -- the next one, for whose files alone the shelf was asked since.
@@ -122,7 +122,7 @@ pub record Leads (status : Status) (before now : ShelfSide) (events : List Event
   pub first : lines_of events ≡ take (length events) all
   pub begun : IsReachedAt status part → Begun (state_after new_state events) before now all (length events) part
   pub named : IsNamedAt status all (length events)
-  pub next : AsksNext before now all (length events)
+  pub fetches : FetchesNext before now all (length events)
 
 -- no more lines are to be done: the source has none left, or a quit is among those that a line feed ends
 abbrev pub IsOver : Option (List ℕ) → List ℕ → Type 0

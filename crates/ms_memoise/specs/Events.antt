@@ -83,11 +83,11 @@ abbrev pub replies : List File → List ℕ → List ℕ
 replies files input = text_after new_state (map (event_of files) (up_to_quit (lines input)))
 
 -- The answers of an event came from the shelf between the two moments. Where its line names no file, the
--- shelf was not asked.
+-- shelf is as it was.
 pub record IsAnswered (before now : ShelfSide) (event : Event) : Type 0 where
   pub given : AreAnswers before now (asked event.line) event.answers
   pub passes : ShelfPasses before now
-  pub unasked : asked event.line ≡ [] → now ≡ before
+  pub unchanged : asked event.line ≡ [] → now ≡ before
 
 -- an event has its answers from this moment on, and then the rest follows
 pub record Then (rest : ShelfSide → Type 0) (before : ShelfSide) (event : Event) : Type 0 where

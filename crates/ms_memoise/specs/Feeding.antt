@@ -18,7 +18,7 @@ use Rattle.ms_memoise.specs.declared.status.Status.TheVariants.{Done, Usage, Rea
 use Rattle.ms_memoise.specs.declared.flow.Flow.{Flow}
 use Rattle.ms_memoise.specs.declared.flow.Flow.TheVariants.{GoesOn, Quits}
 use Rattle.ms_memoise.specs.Events.{AreAnswered, Event, has_quit, is_quit, lines_of, quits, state_after, text_after, up_to_quit}
-use Rattle.ms_memoise.specs.Conversations.{AsksNext, Begun, IsNamedAt, IsReachedAt}
+use Rattle.ms_memoise.specs.Conversations.{FetchesNext, Begun, IsNamedAt, IsReachedAt}
 
 -- the most bytes that are kept of a line
 abbrev pub most_kept : ℕ
@@ -130,7 +130,7 @@ pub record Broke (status : Status) (all : List (List ℕ)) (state : State) (shel
   pub at : ShelfSide
   pub begun : IsReachedAt status part → Begun (state_after state events) at shelf_now all (length events) part
   pub named : IsNamedAt status all (length events)
-  pub next : AsksNext at shelf_now all (length events)
+  pub fetches : FetchesNext at shelf_now all (length events)
   pub answered : AreAnswered shelf at events
   pub rest : ShelfPasses at shelf_now
   pub wrote : Appends sink.taken sink_now.taken (text_after state events ++ part)

@@ -11,7 +11,8 @@ with_byte [] byte = []
 with_byte (last ∷ []) byte = (last.0 ++ byte ∷ [], last.1) ∷ []
 with_byte (first ∷ (second ∷ others)) byte = first ∷ with_byte (second ∷ others) byte
 
--- what was asked, with one more note: of a fetch, whose name is still empty, or of a byte of its name
+-- what was asked, with one more note: of a fetch, whose name is still empty, or of a byte of its name, which has the fetch
+-- with it once more, unread
 abbrev pub with_note : List Asking → Option ℕ × Fetch → List Asking
 with_note asked (None, fetched) = asked ++ ([], answered fetched) ∷ []
 with_note asked (Some byte, fetched) = with_byte asked byte

@@ -7,8 +7,8 @@ use http_server::Log;
 use std::fmt;
 use std::marker::Model;
 
-/// What a shelf was asked, with the answers that it gave. It takes no memory: a clause sees it as the
-/// list of names and answers, and nothing is done at run time.
+/// What a shelf was asked, with the answers that it gave. A clause sees it as the list of names and
+/// answers; at run time nothing is kept, and no memory is taken.
 #[derive(Drop)]
 pub(crate) struct History {
     notes: Log<Option<u8>, Fetch>,

@@ -35,7 +35,7 @@ pub trait Shelf {
     /// one.
     ghost asked: { Self → List Asking };
 
-    /// The bytes of the file of this name. It changes no file.
+    /// The bytes of the file of this name. Files that are told stay as they are.
     fn fetch(&mut self, alloc: Global, name: &[u8]) -> Fetch
         // Where the files are told, a fetch that brought an answer brought theirs.
         ensures answer { IfSome (files self.old) (λ files. IfSome (answered result) (λ answer. answer ≡ answer_of files name.now)) }

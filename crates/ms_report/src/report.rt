@@ -3,7 +3,7 @@ ghost use Rattle.std.specs.Io.KnownBytes.{Appends};
 ghost use Rattle.ms_outside.specs.Sinks.{TakesPart};
 ghost use Rattle.ms_report.specs.Rows as rows_spec;
 ghost use Rattle.ms_report.specs.Rows.{rows_text};
-ghost use Rattle.ms_report.specs.Stops.{HasRow, HasStopped, totals_of};
+ghost use Rattle.ms_report.specs.Stops.{StopsAtRow, HasStopped, totals_of};
 
 use crate::line::row_text;
 use ms_outside::{Sink, write_all};
@@ -42,8 +42,8 @@ impl From<NoMemory> for ReportStop {
 
 /// Writes the rows, at most 4,294,967,295, to the sink, each by a line, and counts them. Where a write
 /// fails, the sink has taken some first bytes of the report, perhaps none, and nothing else; where memory
-/// runs out, before one of the rows, the lines of those before it. Its count of faults has risen exactly
-/// where a write failed.
+/// runs out, before one of the rows, the lines of those before it. The sink's count of faults has risen
+/// exactly where a write failed.
 pub fn write_report<K: Sink>(
     alloc: Global,
     rows: &[PathRow],
@@ -56,7 +56,7 @@ pub fn write_report<K: Sink>(
     ensures steady { OnOk result (K.faults sink.new ≡ K.faults sink.old) }
     ensures cause { IfErr result (λ stop. HasStopped stop (K.faults sink.old) (K.faults sink.new)) }
     ensures grows { K.faults sink.old ≤ K.faults sink.new }
-    ensures row { IfErr result (λ stop. HasRow stop rows.now (K.taken sink.old) (K.taken sink.new)) }
+    ensures row { IfErr result (λ stop. StopsAtRow stop rows.now (K.taken sink.old) (K.taken sink.new)) }
 {
     let mut totals = Totals {
         paths: 0,

@@ -12,7 +12,7 @@ use Rattle.ms_machine.specs.Control.{Program}
 use Rattle.ms_machine.specs.Runs.{IsLeast, end_of}
 use Rattle.ms_jvm.specs.Ends.{path_end_of}
 use Rattle.ms_machine.specs.Laws.{LeastIsUnique}
-use Rattle.ms_session.specs.Laws.{IsListedOneWay, IsPathRow, ListsPaths, Precedes, strings_of}
+use Rattle.ms_session.specs.Laws.{PathListIsUnique, IsPathRow, ListsPaths, Precedes, strings_of}
 use Rattle.ms_session.proofs.Members.{Contains-from_in, IsIn, IsOrdered, from_map}
 
 same_members : {X : Type 0} (R : X → X → Type 0) → ((x y : X) → R x y → R y x → ⊥) → (xs ys : List X) → IsOrdered R xs → IsOrdered R ys → ((x : X) → IsIn x xs → IsIn x ys) → ((y : X) → IsIn y ys → IsIn y xs) → xs ≡ ys
@@ -82,8 +82,8 @@ members P depth unique rows rows' is is' row here =
     let path' : IsPathRow P depth origin.x = All-contains (IsPathRow P depth) rows' origin.x is'.sound (Contains-from_in origin.x rows' origin.is) in
     subst (λ r. IsIn r rows') (row_determined P depth unique origin.x row path' path origin.makes) origin.is
 
-pub listed_one_way : (P : Program) (depth : ℕ) → LeastIsUnique P → IsListedOneWay P depth
-listed_one_way P depth unique rows others is is' =
+pub list_unique : (P : Program) (depth : ℕ) → LeastIsUnique P → PathListIsUnique P depth
+list_unique P depth unique rows others is is' =
     same_members (λ a b. Precedes a.choices b.choices) (λ a b. one_way a.choices b.choices) rows others
     (ordered_rows rows (ordered_from_pairs Precedes (strings_of rows) is.ordered)) (ordered_rows others (ordered_from_pairs Precedes (strings_of others) is'.ordered))
     (members P depth unique rows others is is') (members P depth unique others rows is' is)

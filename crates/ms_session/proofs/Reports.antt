@@ -186,7 +186,7 @@ arms_precede p q q' arm arm' lower first second =
 root_precedes : (p q : List ℕ) (arm : ℕ) → Begins (p ++ arm ∷ []) q → Precedes p q
 root_precedes p q arm begins = subst (λ l. Precedes p l) (sym (append_assoc p (arm ∷ []) begins.rest) ∙ begins.is) (prefix_precedes p arm begins.rest)
 
-tree_ordered : (P : Program) (left : ℕ) (p : List ℕ) → IsOrdered Precedes (tree_from P left p)
+pub tree_ordered : (P : Program) (left : ℕ) (p : List ℕ) → IsOrdered Precedes (tree_from P left p)
 unfolding tree_from
 tree_ordered P zero p = (tt, tt)
 tree_ordered P (suc left) p =

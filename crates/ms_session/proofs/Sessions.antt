@@ -10,8 +10,8 @@ use Rattle.std.specs.declared.alloc.AllocError.{AllocError}
 use Rattle.ms_outside.specs.Shelves.{Answer, File}
 use Rattle.ms_command.specs.declared.reply.Reply as reply
 use Rattle.ms_command.specs.declared.command.Command.TheVariants as commands
-use Rattle.ms_session.specs.Outside.{AreAnswers, AsksSome, ShelfPasses, ShelfSide, SinkSide}
-use Rattle.ms_session.specs.Commands.{AsksAt, Done, IsPartFor, IsReached, Stopped, StopsFor}
+use Rattle.ms_session.specs.Outside.{AreAnswers, FetchesSome, ShelfPasses, ShelfSide, SinkSide}
+use Rattle.ms_session.specs.Commands.{NamesFile, Done, IsPartFor, IsReached, Stopped, StopsFor}
 use Rattle.ms_session.specs.Writing.{HasText, WriteCause, WriteStops}
 use Rattle.ms_session.proofs.Writing.{short_take, take_of_take}
 use Rattle.std.specs.Prelude.{ℤ, cond, codes, map, not, Result, Ok, Err, IfOk, IsOk, IsErr, IsErrAnd, IfSome, MatchResult}
@@ -74,7 +74,7 @@ done_all command state state_now output shelf shelf_now sink sink_now p wrote st
   given = p.given;
   wrote = subst (Appends sink.taken sink_now.taken) (sym p.leads.text) wrote;
   state_is = sym p.leads.state_is;
-  unasked = p.unasked;
+  unchanged = p.unchanged;
   passes = record { on_shelf = p.passes; writes = omega (arith, steady) };
   calm = (p.calm, steady);
 }
@@ -99,9 +99,9 @@ stopped_early stop command state shelf shelf_now sink s =
       wrote = Appends-nil sink.taken;
       stops = both.0;
       at_stop = both.1;
-      asked = s.asked;
-      some = s.some;
-      unasked = s.unasked;
+      names = s.names;
+      fetches = s.fetches;
+      unchanged = s.unchanged;
       passes = record { on_shelf = s.fetch.passes; writes = omega arith };
     }
 
@@ -111,7 +111,7 @@ write_stops stops.ShelfFault shelf shelf_now sink sink_now part calm cause = abs
 write_stops stops.WriteFault shelf shelf_now sink sink_now part calm cause = ((cause, calm), tt)
 write_stops stops.NoMemory shelf shelf_now sink sink_now part calm cause = ((calm, cause), tt)
 
-write_asks : (stop : Stop) (command : Command) (faults faults_now : ℕ) → WriteCause stop faults faults_now → AsksAt stop command
+write_asks : (stop : Stop) (command : Command) (faults faults_now : ℕ) → WriteCause stop faults faults_now → NamesFile stop command
 write_asks stops.ShelfFault command faults faults_now cause = absurd cause
 write_asks stops.WriteFault command faults faults_now cause = tt
 write_asks stops.NoMemory command faults faults_now cause = tt
@@ -132,9 +132,9 @@ stopped_late stop command state state_now output shelf shelf_now sink sink_now p
       wrote = s.part.1;
       stops = both.0;
       at_stop = both.1;
-      asked = write_asks stop command sink.faults sink_now.faults s.cause;
-      some = record { answers = map Some p.answers; asked = p.given.asked };
-      unasked = p.unasked;
+      names = write_asks stop command sink.faults sink_now.faults s.cause;
+      fetches = record { answers = map Some p.answers; asked = p.given.asked };
+      unchanged = p.unchanged;
       passes = record { on_shelf = p.passes; writes = s.grows };
     }
 
@@ -185,12 +185,12 @@ same_shelf at = record { files = refl; fetches = record { faults = omega arith; 
 unanswered : (stop : Stop) (command : Command) (file : List ℕ) (before now : ShelfSide) → names_in command ≡ file ∷ [] → Unanswered stop file before now → PrepareStops stop command before now
 unanswered stop command file before now one u = record {
   fetch = u.fetch;
-  asked = asks_at stop;
-  some = subst (AsksSome before now) (sym one) (record { answers = None ∷ []; asked = u.asked });
-  unasked = λ none. absurd (let both = sym none ∙ one in cc);
+  names = asks_at stop;
+  fetches = subst (FetchesSome before now) (sym one) (record { answers = None ∷ []; asked = u.asked });
+  unchanged = λ none. absurd (let both = sym none ∙ one in cc);
 }
   where
-    asks_at : (s : Stop) → AsksAt s command
+    asks_at : (s : Stop) → NamesFile s command
     asks_at stops.ShelfFault = λ none. let both = sym none ∙ one in cc
     asks_at stops.WriteFault = tt
     asks_at stops.NoMemory = tt
@@ -208,18 +208,18 @@ Replied answer result = MatchResult result (λ output. IfOk answer (λ r. output
 pub replied_so : (command : Command) (state state_now : State) (answers : List Answer) (before now : ShelfSide) (answer : Result reply.Reply AllocError) (result : Result Output Stop) → Replied answer result
     → IfOk answer (λ r. Says (next state command answers) r state_now) → AreAnswers before now (names_in command) answers → ShelfPasses before now → now.counts.faults ≡ before.counts.faults → (names_in command ≡ [] → now ≡ before)
     → MatchResult result (λ output. Prepared command state state_now output before now) (λ stop. PrepareStops stop command before now)
-replied_so command state state_now answers before now (Ok r) (Ok output) is says given passes calm unasked = record {
+replied_so command state state_now answers before now (Ok r) (Ok output) is says given passes calm unchanged = record {
   answers = answers;
   given = given;
   leads = record { text = says.text ∙ ap output_text (sym is.0); state_is = says.state_is };
   short = subst IsShort (sym is.0) tt;
-  unasked = unasked;
+  unchanged = unchanged;
   passes = passes;
   calm = calm;
 }
-replied_so command state state_now answers before now (Err none) (Ok output) is says given passes calm unasked = absurd (let none = is.1 in cc)
-replied_so command state state_now answers before now answer (Err stop) is says given passes calm unasked =
-    subst (λ s. PrepareStops s command before now) (sym is.0) (record { fetch = record { cause = calm; passes = passes }; asked = tt; some = record { answers = map Some answers; asked = given.asked }; unasked = unasked })
+replied_so command state state_now answers before now (Err none) (Ok output) is says given passes calm unchanged = absurd (let none = is.1 in cc)
+replied_so command state state_now answers before now answer (Err stop) is says given passes calm unchanged =
+    subst (λ s. PrepareStops s command before now) (sym is.0) (record { fetch = record { cause = calm; passes = passes }; names = tt; fetches = record { answers = map Some answers; asked = given.asked }; unchanged = unchanged })
 
 pub once_said : (state : State) (file name desc : List ℕ) (words : List ℤ) (answer : Answer) (result : Result reply.Reply AllocError) → IfOk result (λ r. r ≡ once_reply file name desc words answer)
     → IfOk result (λ r. Says (next state (commands.Once file name desc words) (answer ∷ [])) r state)
@@ -233,7 +233,7 @@ prepared_unasked command state state_now output at none leads short = record {
   given = subst (λ names. AreAnswers at at names []) (sym none) (none_asked at);
   leads = leads;
   short = short;
-  unasked = λ none. refl;
+  unchanged = λ none. refl;
   passes = same_shelf at;
   calm = refl;
 }
@@ -245,4 +245,4 @@ pub kept_so : (command : Command) (state state_now : State) (at : ShelfSide) (ou
 kept_so command state state_now at output (Ok out) none is leads short =
     prepared_unasked command state state_now out at none (subst (λ o. IfOk o (λ out. Leads (next state command []) out state_now)) is leads) (subst (λ o. IfOk o IsShort) is short)
 kept_so command state state_now at output (Err stop) none is leads short =
-    subst (λ s. PrepareStops s command at at) (sym is.0) (record { fetch = record { cause = refl; passes = same_shelf at }; asked = tt; some = subst (AsksSome at at) (sym none) (record { answers = []; asked = (none_asked at).asked }); unasked = λ none. refl })
+    subst (λ s. PrepareStops s command at at) (sym is.0) (record { fetch = record { cause = refl; passes = same_shelf at }; names = tt; fetches = subst (FetchesSome at at) (sym none) (record { answers = []; asked = (none_asked at).asked }); unchanged = λ none. refl })

@@ -6,7 +6,7 @@ use Rattle.ms_outside.specs.Shelves.{Answer}
 use Rattle.ms_command.specs.declared.command.Command.{Command}
 use Rattle.ms_session.specs.declared.stop.Stop.{Stop}
 use Rattle.ms_session.specs.declared.stop.Stop.TheVariants as stops
-use Rattle.ms_session.specs.Outside.{AreAnswers, AsksSome, Calm, Passes, ShelfSide, SinkSide}
+use Rattle.ms_session.specs.Outside.{AreAnswers, FetchesSome, Calm, Passes, ShelfSide, SinkSide}
 use Rattle.ms_session.specs.States.{State}
 use Rattle.ms_session.specs.Steps.{names_in, next}
 
@@ -16,8 +16,8 @@ pub record Done (command : Command) (state state_now : State) (shelf shelf_now :
   pub given : AreAnswers shelf shelf_now (names_in command) answers
   pub wrote : Appends sink.taken sink_now.taken (next state command answers).text
   pub state_is : state_now ≡ (next state command answers).state
-  -- where it names no file, the shelf was not asked
-  pub unasked : names_in command ≡ [] → shelf_now ≡ shelf
+  -- where it names no file, the shelf is as it was
+  pub unchanged : names_in command ≡ [] → shelf_now ≡ shelf
   pub passes : Passes shelf shelf_now sink sink_now
   pub calm : Calm shelf shelf_now sink sink_now
 
@@ -41,10 +41,10 @@ IsPartFor stops.WriteFault part = Unit {0}
 IsPartFor stops.NoMemory part = Unit {0}
 
 -- a fetch failed only where the command names a file
-abbrev pub AsksAt : Stop → Command → Type 0
-AsksAt stops.ShelfFault command = names_in command ≢ []
-AsksAt stops.WriteFault command = Unit {0}
-AsksAt stops.NoMemory command = Unit {0}
+abbrev pub NamesFile : Stop → Command → Type 0
+NamesFile stops.ShelfFault command = names_in command ≢ []
+NamesFile stops.WriteFault command = Unit {0}
+NamesFile stops.NoMemory command = Unit {0}
 
 -- there was something to write: a write failed, or the sink took some first bytes
 abbrev pub IsReached : Stop → List ℕ → Type 0
@@ -59,7 +59,7 @@ pub record Stopped (stop : Stop) (command : Command) (state : State) (shelf shel
   pub wrote : Appends sink.taken sink_now.taken part
   pub stops : StopsFor stop shelf shelf_now sink sink_now
   pub at_stop : IsPartFor stop part
-  pub asked : AsksAt stop command
-  pub some : AsksSome shelf shelf_now (names_in command)
-  pub unasked : names_in command ≡ [] → shelf_now ≡ shelf
+  pub names : NamesFile stop command
+  pub fetches : FetchesSome shelf shelf_now (names_in command)
+  pub unchanged : names_in command ≡ [] → shelf_now ≡ shelf
   pub passes : Passes shelf shelf_now sink sink_now

@@ -1,5 +1,4 @@
--- Laws of least inputs and of reports: what the first of all inputs and the walk through the tree of strings give, in the
--- machine's words for inputs and runs.
+-- Laws: `least_of` gives least inputs, and `report` the list of paths, said without the tree of strings.
 use Rattle.std.specs.Prelude.{◌≡◌, ℕ, ℤ, List, map, All, AllPairs, Contains, Some, None}
 use Rattle.std.specs.declared.cmp.Ordering.TheVariants.{Less}
 use Rattle.ms_words.specs.declared.end.PathEnd.{PathEnd}
@@ -23,8 +22,8 @@ pub record LeastComesFirst (P : Program) (p : List ℕ) : Type 0 where
 
 -- REPORTS
 
--- The row is that of a path: its choices are all those of the least input that takes them, in a run to the
--- depth, and its outcome is that input, and how that run ends.
+-- The row of a path: its string is the whole string, to this depth, of the least input that takes it; its
+-- outcome is that input and the end of its run.
 pub record IsPathRow (P : Program) (depth : ℕ) (row : PathRow) : Type 0 where
   pub input : Words
   pub end : PathEnd
@@ -41,13 +40,13 @@ Precedes p q = choice_order p q ≡ Less
 abbrev pub strings_of : List PathRow → List (List ℕ)
 strings_of rows = map (λ row. row.choices) rows
 
--- These rows list the paths to a depth: each is that of a path; the string of each input's run has one; and they stand in
--- choice order, so that each string has one row alone.
+-- These rows list the paths to a depth: each is that of a path; the string of each input's run has a row; and they stand
+-- in choice order, so that each string has one row alone.
 pub record ListsPaths (P : Program) (depth : ℕ) (rows : List PathRow) : Type 0 where
   pub sound : All (IsPathRow P depth) rows
   pub complete : (x : Words) → IsInputOf P x → Contains (strings_of rows) (string P x depth)
   pub ordered : AllPairs Precedes (strings_of rows)
 
 -- there is one such list at most
-abbrev pub IsListedOneWay : Program → ℕ → Type 0
-IsListedOneWay P depth = (rows others : List PathRow) → ListsPaths P depth rows → ListsPaths P depth others → rows ≡ others
+abbrev pub PathListIsUnique : Program → ℕ → Type 0
+PathListIsUnique P depth = (rows others : List PathRow) → ListsPaths P depth rows → ListsPaths P depth others → rows ≡ others

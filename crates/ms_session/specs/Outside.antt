@@ -44,7 +44,7 @@ pub record AreAnswers (before now : ShelfSide) (names : List (List ℕ)) (answer
 
 -- Between the two moments the shelf was asked for some first ones of these names, once each and in this order, and for no
 -- others, whether it gave an answer or not.
-pub record AsksSome (before now : ShelfSide) (names : List (List ℕ)) : Type 0 where
+pub record FetchesSome (before now : ShelfSide) (names : List (List ℕ)) : Type 0 where
   pub answers : List (Option Answer)
   pub asked : now.asked ≡ before.asked ++ zip names answers
 

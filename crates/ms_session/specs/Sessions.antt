@@ -13,8 +13,8 @@ use Rattle.ms_session.specs.declared.fetching.Fetched.{Fetched}
 use Rattle.ms_session.specs.declared.fetching.Fetched.TheVariants as fetches
 use Rattle.ms_session.specs.declared.stop.Stop.{Stop}
 use Rattle.ms_session.specs.declared.stop.Stop.TheVariants as stops
-use Rattle.ms_session.specs.Commands.{AsksAt}
-use Rattle.ms_session.specs.Outside.{AreAnswers, AsksSome, ShelfPasses, ShelfSide}
+use Rattle.ms_session.specs.Commands.{NamesFile}
+use Rattle.ms_session.specs.Outside.{AreAnswers, FetchesSome, ShelfPasses, ShelfSide}
 use Rattle.ms_session.specs.declared.output.Output.{Output}
 use Rattle.ms_session.specs.declared.output.Output.TheVariants as outputs
 use Rattle.ms_session.specs.Known.{Known, nothing_known}
@@ -126,9 +126,9 @@ pub record Unanswered (stop : Stop) (file : List ℕ) (before now : ShelfSide) :
 -- why nothing is to be written
 pub record PrepareStops (stop : Stop) (command : Command) (before now : ShelfSide) : Type 0 where
   pub fetch : FetchStops stop before now
-  pub asked : AsksAt stop command
-  pub some : AsksSome before now (names_in command)
-  pub unasked : names_in command ≡ [] → now ≡ before
+  pub names : NamesFile stop command
+  pub fetches : FetchesSome before now (names_in command)
+  pub unchanged : names_in command ≡ [] → now ≡ before
 
 -- what a command is about to write, and the state, by the shelf's answers
 pub record Prepared (command : Command) (state state_now : State) (output : Output) (before now : ShelfSide) : Type 0 where
@@ -136,6 +136,6 @@ pub record Prepared (command : Command) (state state_now : State) (output : Outp
   pub given : AreAnswers before now (names_in command) answers
   pub leads : Leads (next state command answers) output state_now
   pub short : IsShort output
-  pub unasked : names_in command ≡ [] → now ≡ before
+  pub unchanged : names_in command ≡ [] → now ≡ before
   pub passes : ShelfPasses before now
   pub calm : now.counts.faults ≡ before.counts.faults

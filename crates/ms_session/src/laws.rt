@@ -1,9 +1,9 @@
-ghost use Rattle.std.specs.Prelude.{ℕ, List};
+ghost use Rattle.std.specs.Prelude.{AllPairs, ℕ, List};
 ghost use Rattle.ms_classfile.specs.ThinFile.{IsThinMethod, Method};
 ghost use Rattle.ms_jvm.specs.Programs.{program_of};
 ghost use Rattle.ms_machine.specs.Control.{Program};
-ghost use Rattle.ms_session.specs.Laws.{IsListedOneWay, LeastComesFirst, ListsPaths};
-ghost use Rattle.ms_session.specs.Paths.{report};
+ghost use Rattle.ms_session.specs.Laws.{LeastComesFirst, ListsPaths, PathListIsUnique, Precedes};
+ghost use Rattle.ms_session.specs.Paths.{report, tree};
 
 use ms_jvm::thin_methods_end;
 use ms_machine::{inputs_share_shadows, least_is_unique};
@@ -14,7 +14,7 @@ pub fn least_inputs_come_first()
 {}
 
 /// The report of a thin method to a depth lists each path that some input takes, once and in choice order,
-/// with its least input and its end.
+/// with its least input and its end, and nothing else.
 pub fn reports_list_each_path()
     ensures { (method : Method) (depth : ℕ) → IsThinMethod method → ListsPaths (program_of method) depth (report (program_of method) depth) }
 {
@@ -22,10 +22,16 @@ pub fn reports_list_each_path()
     thin_methods_end();
 }
 
-/// There is one list of the paths to a depth at most, in any program. So the report of a thin method is the
+/// There is at most one list of the paths to a depth, in any program. So the report of a thin method is the
 /// list of its paths, however it is found.
-pub fn paths_are_listed_one_way()
-    ensures { (P : Program) (depth : ℕ) → IsListedOneWay P depth }
+pub fn path_list_is_unique()
+    ensures { (P : Program) (depth : ℕ) → PathListIsUnique P depth }
 {
     least_is_unique();
 }
+
+/// The strings of the tree stand in choice order, each once, in any program: so the first that needs settling
+/// is the first in that order.
+pub fn trees_are_in_choice_order()
+    ensures { (P : Program) (depth : ℕ) → AllPairs Precedes (tree P depth) }
+{}

@@ -13,6 +13,8 @@ mod session;
 mod stop;
 mod tree;
 
-pub use laws::{least_inputs_come_first, paths_are_listed_one_way, reports_list_each_path};
+pub use laws::{
+    least_inputs_come_first, path_list_is_unique, reports_list_each_path, trees_are_in_choice_order,
+};
 pub use session::Session;
 pub use stop::Stop;

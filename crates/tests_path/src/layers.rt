@@ -9,7 +9,9 @@ use ms_outside::{
     Fetch, FolderShelf, Shelf, Shelved, StdSink, StdSource, SureShelf, SureSink, SureSource,
 };
 use ms_pool::Short;
-use ms_session::{least_inputs_come_first, paths_are_listed_one_way, reports_list_each_path};
+use ms_session::{
+    least_inputs_come_first, path_list_is_unique, reports_list_each_path, trees_are_in_choice_order,
+};
 use ms_words::{Name, thrown_named};
 use std::alloc::{AllocError, Global};
 use std::test::Fail;
@@ -77,7 +79,8 @@ fn laws_do_nothing(_rt: HostRuntime) {
     thin_methods_end();
     least_inputs_come_first();
     reports_list_each_path();
-    paths_are_listed_one_way();
+    path_list_is_unique();
+    trees_are_in_choice_order();
 }
 
 #[test]
