@@ -117,7 +117,7 @@ fn interface(cursor: &mut Cursor<'_>) -> Result<(), ClassFault>
     Ok(())
 }
 
-#[tactic(auto, using(crate::proofs::Loops::ends, crate::proofs::Loops::goes_on, crate::proofs::Loops::is_done))]
+#[tactic(auto, using(ms_pool::specs::Loops::ends, ms_pool::specs::Loops::goes_on, ms_pool::specs::Loops::is_done))]
 fn several_interfaces(count: u16, cursor: &mut Cursor<'_>) -> Result<(), ClassFault>
     ensures { Finds (λ nothing. nothing) result cursor.new ((repeated count interface tt).read cursor.old) }
 {

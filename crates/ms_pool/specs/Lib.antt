@@ -2,6 +2,7 @@ pub mod Places
 pub mod Numbers
 pub mod Formats
 pub mod Exact
+pub mod Loops
 pub mod Pools
 pub mod PoolReading
 pub mod ByNumber

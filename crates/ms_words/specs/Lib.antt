@@ -5,3 +5,4 @@ pub mod Padding
 pub mod Inputs
 pub mod Kept
 pub mod Items
+pub mod Descriptors

@@ -6,6 +6,7 @@
 //! result to a word. A name is a list of bytes.
 #![tactic(auto)]
 
+mod descriptor;
 mod end;
 mod input;
 mod item;
@@ -14,6 +15,7 @@ mod name;
 mod operator;
 mod thrown;
 
+pub use descriptor::{FieldType, descriptors_spell_types, field_type, is_known_signature};
 pub use end::{Ended, PathEnd};
 pub use input::{Input, input_less};
 pub use item::Item;

@@ -26,7 +26,7 @@ fn attribute(pool: &Pool<'_>, cursor: &mut Cursor<'_>, inside: Inside) -> Result
     passed(cursor, inside)
 }
 
-#[tactic(auto, using(crate::proofs::Loops::ends, crate::proofs::Loops::goes_on, crate::proofs::Loops::is_done))]
+#[tactic(auto, using(ms_pool::specs::Loops::ends, ms_pool::specs::Loops::goes_on, ms_pool::specs::Loops::is_done))]
 fn several(
     pool: &Pool<'_>,
     count: u16,

@@ -50,7 +50,7 @@ fn is_class(pool: &Pool<'_>, number: u16) -> bool
     }
 }
 
-#[tactic(auto, using(crate::proofs::Loops::ends, crate::proofs::Loops::goes_on, crate::proofs::Loops::is_done))]
+#[tactic(auto, using(ms_pool::specs::Loops::ends, ms_pool::specs::Loops::goes_on, ms_pool::specs::Loops::is_done))]
 fn handlers(
     alloc: Global,
     pool: &Pool<'_>,

@@ -46,7 +46,7 @@ fn attribute<'a>(
     Ok(known)
 }
 
-#[tactic(auto, using(crate::proofs::Loops::ends, crate::proofs::Loops::goes_on, crate::proofs::Loops::is_done))]
+#[tactic(auto, using(ms_pool::specs::Loops::ends, ms_pool::specs::Loops::goes_on, ms_pool::specs::Loops::is_done))]
 fn several_attributes<'a>(
     alloc: Global,
     pool: &Pool<'_>,
@@ -113,7 +113,7 @@ fn add<'a>(
     Ok(())
 }
 
-#[tactic(auto, using(crate::proofs::Loops::ends, crate::proofs::Loops::goes_on, crate::proofs::Loops::is_done))]
+#[tactic(auto, using(ms_pool::specs::Loops::ends, ms_pool::specs::Loops::goes_on, ms_pool::specs::Loops::is_done))]
 fn several<'a>(
     alloc: Global,
     pool: &Pool<'a>,

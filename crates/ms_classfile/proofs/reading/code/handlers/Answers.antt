@@ -5,7 +5,8 @@ use Rattle.std.proofs.lemmas.Result.{err_from_is_err_and}
 use Rattle.ms_classfile.specs.ClassFile.{handler}
 use Rattle.ms_classfile.specs.ClassFinds.{short_of}
 use Rattle.ms_pool.specs.Formats.{Format, added, repeated}
-use Rattle.ms_classfile.proofs.Loops.{added_ends, added_on, is_fault}
+use Rattle.ms_pool.specs.Loops.{added_on}
+use Rattle.ms_classfile.proofs.Loops.{added_ends, is_fault}
 use Rattle.ms_classfile.proofs.reading.code.handlers.Goals as goal
 
 pub returns-in_err-row : goal.returns-in_err-row

@@ -2,7 +2,7 @@ use Rattle.std.proofs.Common.{◌-◌, []}
 use Rattle.ms_classfile.specs.ClassFile.{handler}
 use Rattle.ms_classfile.specs.ClassFinds.{short_of}
 use Rattle.ms_pool.specs.Formats.{added, repeated}
-use Rattle.ms_classfile.proofs.Loops.{IsReading}
+use Rattle.ms_pool.specs.Loops.{IsReading}
 use Rattle.ms_classfile.proofs.reading.code.handlers.Given as goal
 
 abbrev pub invariant-loop : goal.invariant-loop

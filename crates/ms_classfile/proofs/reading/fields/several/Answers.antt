@@ -3,7 +3,8 @@ use Rattle.std.proofs.lemmas.Result.{err_from_is_err_and}
 use Rattle.ms_classfile.specs.ClassFile.{field}
 use Rattle.ms_classfile.specs.ClassViews.{field_view}
 use Rattle.ms_pool.specs.Formats.{added, repeated}
-use Rattle.ms_classfile.proofs.Loops.{fails_ends, goes_on}
+use Rattle.ms_pool.specs.Loops.{goes_on}
+use Rattle.ms_classfile.proofs.Loops.{fails_ends}
 use Rattle.ms_classfile.proofs.reading.fields.several.Goals as goal
 
 pub returns-in_err-add : goal.returns-in_err-add

@@ -3,7 +3,7 @@ use Rattle.ms_classfile.specs.ClassFile.{field, field_key}
 use Rattle.ms_classfile.specs.ClassViews.{field_view}
 use Rattle.ms_classfile.specs.Seen.{AreKeysOf}
 use Rattle.ms_pool.specs.Formats.{added, repeated}
-use Rattle.ms_classfile.proofs.Loops.{IsReading}
+use Rattle.ms_pool.specs.Loops.{IsReading}
 use Rattle.ms_classfile.proofs.reading.fields.several.Given as goal
 
 abbrev pub invariant-loop : goal.invariant-loop

@@ -3,7 +3,7 @@ use Rattle.ms_classfile.specs.ClassFile.{method, method_key}
 use Rattle.ms_classfile.specs.ClassViews.{method_view}
 use Rattle.ms_classfile.specs.Seen.{AreKeysOf}
 use Rattle.ms_pool.specs.Formats.{added, repeated}
-use Rattle.ms_classfile.proofs.Loops.{IsReading}
+use Rattle.ms_pool.specs.Loops.{IsReading}
 use Rattle.ms_classfile.proofs.reading.methods.several.Given as goal
 
 abbrev pub invariant-loop : goal.invariant-loop

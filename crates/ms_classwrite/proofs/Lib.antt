@@ -1,0 +1,13 @@
+pub mod Example
+pub mod Same
+pub mod Equal
+pub mod Numbers
+pub mod More
+pub mod Written
+pub mod Spelling
+pub mod There
+pub mod Slots
+pub mod Fits
+pub mod Members
+pub mod Files
+pub mod Once

@@ -1,0 +1,4 @@
+pub mod Plans
+pub mod Layout
+pub mod Lines
+pub mod ReadBack

@@ -1,0 +1,5 @@
+//! Tests of what class files are written.
+#![tactic(auto)]
+
+#[cfg(test)]
+mod written;
