@@ -85,7 +85,7 @@ unless_sound None = record {
 unless_sound (Some at) = record {
   exact = unless_exact (Some at);
   forward = λ place y is. absurd (let e = is in cc);
-  told = λ place trouble is. subst IsTold (err_is {A = Unit {0} × Place} (At kinds.Target at) trouble is) tt;
+  told = λ place trouble is. subst IsTold (err_is {A = Unit {0} × Place} (At kinds.Target at) trouble is) refl;
 }
 
 pub decoded_sound : (pool : List (Option Placed)) (code : Code) → IsSound (decoded pool code)

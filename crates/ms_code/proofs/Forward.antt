@@ -19,6 +19,7 @@ use Rattle.ms_code.specs.declared.trouble.Trouble.{Trouble}
 use Rattle.ms_code.specs.declared.trouble.Trouble.TheVariants.{Foreign, At, NoMemory}
 use Rattle.ms_code.specs.Instructions.{u1, u2, s1, s2, s4, cut, named, is_constant, is_field, is_method, is_constructor, is_throwable, case_of, table_case, gap, table_switch, lookup_case, lookup_switch, target, target_from, operand, wide_operand, widened, behind as behind_opcode, instruction}
 use Rattle.ms_code.specs.Keys.{keys_ascend}
+use Rattle.ms_code.specs.Laws.{is_code_fault}
 use Rattle.ms_code.specs.Opcodes.{form_of}
 
 -- the place goes on, and what is left ends where it ended
@@ -26,10 +27,10 @@ pub record GoesOn (place after : Place) : Type 0 where
   pub whole : after.at + length after.left ≡ place.at + length place.left
   pub on : place.at ≤ after.at
 
--- a trouble that bytes have, and not memory
+-- a trouble that a code has, and not memory
 abbrev pub IsTold : Trouble → Type 0
 IsTold Foreign = Unit {0}
-IsTold (At kind at) = Unit {0}
+IsTold (At kind at) = is_code_fault kind ≡ true
 IsTold NoMemory = ⊥
 
 -- A format that is exact, goes on where it is read, and never tells that memory ran out.
@@ -54,7 +55,7 @@ enough_ok short n place missing x y found = by_test (ltb (length place.left) n) 
 
 -- the trouble of a part for which too few bytes are left
 enough_told : {X : Type 0} (place : ℕ) (b : Bool) (missing : Short) (x : X) (trouble : Trouble) → or_short (cut place) (cond b (Err missing) (Ok x)) ≡ Err trouble → IsTold trouble
-enough_told {X = X} place true missing x trouble found = subst IsTold (err_is {A = X} (cut place missing.at) trouble found) tt
+enough_told {X = X} place true missing x trouble found = subst IsTold (err_is {A = X} (cut place missing.at) trouble found) refl
 enough_told place false missing x trouble found = absurd (let e = found in cc)
 
 number_sound : (place n : ℕ) → IsExact (number (cut place) n) → IsSound (number (cut place) n)
@@ -159,7 +160,7 @@ table_sound place offset =
     both_sound (s4 place) _ (s4_sound place) (λ otherwise.
     both_sound (s4 place) _ (s4_sound place) (λ low.
     both_sound (s4 place) _ (s4_sound place) (λ high.
-    both_sound (check (not (int_lt high low)) (At kinds.Switch place)) _ (check_sound (not (int_lt high low)) (At kinds.Switch place) tt) (λ ordered.
+    both_sound (check (not (int_lt high low)) (At kinds.Switch place)) _ (check_sound (not (int_lt high low)) (At kinds.Switch place) refl) (λ ordered.
     both_sound (repeated (unsigned_abs (high -ℤ low) + 1) (added (table_case place offset low)) []) _ (repeated_sound (unsigned_abs (high -ℤ low) + 1) (added (table_case place offset low)) [] (λ before. added_sound (table_case place offset low) before (case_sound place offset _))) (λ cases.
     done_sound (operands.Cases (record { cases = cases; otherwise = target_from offset otherwise }))))))))
 
@@ -173,9 +174,9 @@ lookup_sound place offset =
     both_sound (gap place offset) _ (run_sound place _) (λ bytes.
     both_sound (s4 place) _ (s4_sound place) (λ otherwise.
     both_sound (s4 place) _ (s4_sound place) (λ count.
-    both_sound (check (not (int_lt count (pos 0))) (At kinds.Switch place)) _ (check_sound (not (int_lt count (pos 0))) (At kinds.Switch place) tt) (λ counted.
+    both_sound (check (not (int_lt count (pos 0))) (At kinds.Switch place)) _ (check_sound (not (int_lt count (pos 0))) (At kinds.Switch place) refl) (λ counted.
     both_sound (repeated (unsigned_abs count) (added (λ before. lookup_case place offset)) []) _ (repeated_sound (unsigned_abs count) (added (λ before. lookup_case place offset)) [] (λ before. added_sound (λ others. lookup_case place offset) before (lookup_case_sound place offset))) (λ cases.
-    both_sound (check (keys_ascend cases) (At kinds.Switch place)) _ (check_sound (keys_ascend cases) (At kinds.Switch place) tt) (λ ordered.
+    both_sound (check (keys_ascend cases) (At kinds.Switch place)) _ (check_sound (keys_ascend cases) (At kinds.Switch place) refl) (λ ordered.
     done_sound (operands.Cases (record { cases = cases; otherwise = target_from offset otherwise }))))))))
 
 target_sound : (offset : ℕ) (by : ℤ) → IsSound (target offset by)

@@ -1,5 +1,5 @@
 -- A code is one of three things, and one thing of its kind.
-use Rattle.std.proofs.Common.{◌≡◌, ◌⊎◌, ℕ, List, Option, inl, inr}
+use Rattle.std.proofs.Common.{◌≡◌, ◌⊎◌, true, ℕ, List, Option, inl, inr}
 use Rattle.ms_pool.specs.declared.code.ClassKind.{ClassKind}
 use Rattle.ms_pool.specs.Pools.{Placed}
 use Rattle.ms_pool.specs.Places.{Place, beginning}
@@ -8,6 +8,7 @@ use Rattle.ms_pool.specs.Exact.{breaks_one, not_both, spells_one, spells_or_brea
 use Rattle.ms_code.specs.declared.trouble.Trouble.{Trouble}
 use Rattle.ms_code.specs.declared.trouble.Trouble.TheVariants.{Foreign, At, NoMemory}
 use Rattle.ms_code.specs.Codes.{Code, DecodedCode, HasFault, IsDecoded, IsForeign, decoded}
+use Rattle.ms_code.specs.Laws.{is_code_fault}
 use Rattle.ms_code.proofs.Exact.{decoded_sound}
 
 pub one_of_three : (pool : List (Option Placed)) (code : Code) → IsBytes code.code → ((result : DecodedCode) × IsDecoded pool code result) ⊎ IsForeign pool code ⊎ ((kind : ClassKind) × (at : ℕ) × HasFault pool code kind at)
@@ -30,3 +31,6 @@ one_trouble pool code first second bytes p q = breaks_one (decoded pool code) (d
 
 pub one_code : (pool : List (Option Placed)) (code : Code) (first second : DecodedCode) → IsBytes code.code → IsDecoded pool code first → IsDecoded pool code second → first ≡ second
 one_code pool code first second bytes p q = (spells_one (decoded pool code) (decoded_sound pool code).exact (beginning code.code) p.after q.after first second bytes p.is q.is).0
+
+pub kind_of_code : (pool : List (Option Placed)) (code : Code) (kind : ClassKind) (at : ℕ) → IsBytes code.code → HasFault pool code kind at → is_code_fault kind ≡ true
+kind_of_code pool code kind at bytes broken = (decoded_sound pool code).told (beginning code.code) (At kind at) ((decoded_sound pool code).exact.faults (beginning code.code) (At kind at) bytes broken)

@@ -124,6 +124,13 @@ are_handlers pool all size place (row ∷ rows) handlers found none =
     by_test true is e others = others is e
     by_test false is e others = absurd (let f = e in cc)
 
+handlers_many : (pool : List (Option Placed)) (rows : List RawHandler) (handlers : List Handler) → handlers_of pool rows ≡ Some handlers → length handlers ≡ length rows
+handlers_many pool [] handlers found = ap (λ (hs : List Handler). length hs) (sym (some_is [] handlers found))
+handlers_many pool (row ∷ rows) handlers found =
+    let p = joined (λ (handler : Handler). option_map (λ (others : List Handler). handler ∷ others) (handlers_of pool rows)) (handler_of pool row) handlers found in
+    let q = mapped (λ (others : List Handler). p.0 ∷ others) (handlers_of pool rows) handlers p.2 in
+    ap (λ (hs : List Handler). length hs) (sym q.2) ∙ ap (λ (n : ℕ). suc n) (handlers_many pool rows q.0 q.1)
+
 -- THE LAW
 
 pub is_whole : (pool : List (Option Placed)) (code : Code) (result : DecodedCode) → IsBytes code.code → IsDecoded pool code result → IsWhole code result
@@ -149,6 +156,7 @@ is_whole pool code result bytes is =
       keys = λ offset instr at_offset.
           let q = mapped (λ (step : Step). step.instr) (step_at result.steps offset) instr at_offset in
           subst (λ (i : Instr). has_keys_in_order i.operand ≡ true) q.2 (all_get is_ordered result.steps offset (Some q.0) (are_ordered pool code.code_at code.code result.steps p.after p.steps_are) (step_is result.steps offset q.0 q.1));
+      as_many = handlers_many pool code.table result.handlers p.handlers;
       handlers = are_handlers pool result.steps size code.table_at code.table result.handlers p.handlers p.entries;
     }
   where

@@ -55,7 +55,8 @@ foreign = found None Foreign
 
 -- TARGETS
 
--- the offset that a whole number is; 65,535 stands for each that no instruction can have, since no code is longer
+-- The offset that a whole number is. 65,535 stands for each that no instruction can have in a code of at most 65,535
+-- bytes, which is all that is decoded.
 abbrev pub offset_of : ℤ → ℕ
 offset_of (pos n) = min n 65535
 offset_of (negsuc n) = 65535

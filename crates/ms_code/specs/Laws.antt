@@ -1,7 +1,8 @@
 -- What is said of all codes, and of each decoded one.
-use Rattle.std.specs.Prelude.{◌≡◌, ℕ, ◌<◌, List, [], ◌∷◌, ◌++◌, length, Bool, true, ◌&&◌, ◌||◌, ◌==◌, nat_lt, Option, Some, All, IsTrue}
+use Rattle.std.specs.Prelude.{◌≡◌, ℕ, ◌<◌, List, [], ◌∷◌, ◌++◌, length, Bool, true, false, ◌&&◌, ◌||◌, ◌==◌, nat_lt, Option, Some, All, IsTrue}
 use Rattle.std.specs.List.{list_all}
 use Rattle.ms_pool.specs.declared.code.ClassKind.{ClassKind}
+use Rattle.ms_pool.specs.declared.code.ClassKind.TheVariants.{Cut, Target, Switch}
 use Rattle.ms_pool.specs.Pools.{Placed}
 use Rattle.ms_code.specs.declared.decoded.Handler.{Handler}
 use Rattle.ms_code.specs.declared.decoded.Step.{Step}
@@ -28,6 +29,13 @@ SaysSomething pool code = (decoded : DecodedCode) × IsDecoded pool code decoded
 -- the code has a first fault
 abbrev pub IsAtFault : Slots → Code → Type 0
 IsAtFault pool code = (kind : ClassKind) × (at : ℕ) × HasFault pool code kind at
+
+-- whether a fault of this kind is one of a code
+abbrev pub is_code_fault : ClassKind → Bool
+is_code_fault Cut = true
+is_code_fault Target = true
+is_code_fault Switch = true
+is_code_fault other = false
 
 -- DECODED CODES
 
@@ -69,5 +77,6 @@ pub record IsWhole (code : Code) (decoded : DecodedCode) : Type 0 where
   pub targets : (offset : ℕ) (instr : Instr) → instr_at decoded offset ≡ Some instr → IsTrue (list_all (is_start decoded.steps) (targets_of instr.operand))
   -- the keys of each switch ascend
   pub keys : (offset : ℕ) (instr : Instr) → instr_at decoded offset ≡ Some instr → IsTrue (has_keys_in_order instr.operand)
-  -- each handler is where it should be
+  -- there is a handler for each entry of the exception table, and each is where it should be
+  pub as_many : length decoded.handlers ≡ length code.table
   pub handlers : IsTrue (list_all (is_handler decoded.steps (length code.code)) decoded.handlers)

@@ -1,5 +1,5 @@
--- The instructions that are decoded, by their opcodes (JVMS SE 8, section 6.5). A method whose code has another one is
--- foreign.
+-- The instructions that are decoded, by their opcodes (JVMS SE 8, section 6.5). A method whose code has another one, and
+-- no fault before it, is foreign.
 use Rattle.std.specs.Prelude.{ℕ, List, [], ◌∷◌, Bool, ◌&&◌, nat_le, Option, option_map, find}
 use Rattle.ms_code.specs.declared.form.Form.{Form}
 use Rattle.ms_code.specs.declared.form.Form.TheVariants.{Plain, SignedByte, SignedShort, ConstantByte, ConstantShort, LocalIndex, LocalAndByte, BranchShort, TableCases, LookupCases, FieldIndex, ConstructorIndex, MethodIndex, ClassIndex, ArrayType, Widened, BranchInt}

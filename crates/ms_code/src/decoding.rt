@@ -70,8 +70,8 @@ fn decoded(
 }
 
 /// Decodes the code of a method (JVMS SE 8, sections 4.7.3, 4.9.1 and 6.5), in a class file with this
-/// constant pool. It takes memory for the instructions and the handlers, at most some 60 bytes for a byte
-/// of code and 16 for an entry of the exception table.
+/// constant pool. It takes memory for the instructions and the handlers: some 64 bytes for a byte of
+/// code and 12 for an entry of the exception table, and as much again where a list was just lengthened.
 ///
 /// What is known first counts: the instructions, one after another from offset 0 to the end of the code;
 /// then their targets, in order of offset; then the entries of the exception table; then the classes
@@ -87,8 +87,12 @@ fn decoded(
 ///   exception table begins or is handled where no instruction starts, ends neither where one does nor
 ///   at the end of the code, or has an empty range, at the place of the entry.
 ///
-/// The code has at most 65,535 bytes, and code and table end at places that are numbers of 64 bits: each
-/// row that a class file has is such. That memory ran out has no cause in a clause.
+/// Not looked at are the number of locals, which an index may pass, and how many places the arguments of
+/// a call take. A code of no bytes is decoded as no instructions.
+///
+/// The code has at most 65,535 bytes, and code and table end at places that are numbers of 64 bits: so it
+/// is in a class file, by its format, but no clause of `read_class` hands that on yet. That memory ran
+/// out has no cause in a clause.
 pub fn decode(alloc: Global, row: &CodeRow<'_>, pool: &Pool<'_>) -> Result<Coded, CodeFault>
     requires short { length row.now.code.now < 2 ^ 16 }
     requires code { row.now.code_at + length row.now.code.now < 2 ^ 64 }

@@ -20,9 +20,9 @@ pub enum Form {
     ConstantShort,
     /// The pool's number of a field.
     FieldIndex,
-    /// The pool's number of a method that isn't a constructor.
+    /// The pool's number of a method that is called.
     MethodIndex,
-    /// The pool's number of a constructor.
+    /// The pool's number of a constructor that is called.
     ConstructorIndex,
     /// The pool's number of a class.
     ClassIndex,

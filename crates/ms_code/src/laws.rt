@@ -1,7 +1,7 @@
-ghost use Rattle.std.specs.Prelude.{◌≡◌, ◌⊎◌, ℕ};
+ghost use Rattle.std.specs.Prelude.{◌≡◌, ◌⊎◌, IsTrue, ℕ};
 ghost use Rattle.ms_pool.specs.declared.code.ClassKind.{ClassKind};
 ghost use Rattle.ms_code.specs.Codes.{Code, DecodedCode, HasFault, IsDecoded, IsForeign};
-ghost use Rattle.ms_code.specs.Laws.{AreBytes, IsAtFault, IsWhole, SaysSomething, Slots};
+ghost use Rattle.ms_code.specs.Laws.{AreBytes, IsAtFault, IsWhole, SaysSomething, Slots, is_code_fault};
 
 /// The law of codes, of bytes below 256: each is decoded, foreign or at fault. It does nothing.
 pub fn codes_are_decoded_foreign_or_at_fault()
@@ -10,6 +10,8 @@ pub fn codes_are_decoded_foreign_or_at_fault()
     // And no other one.
     ensures decoded_only { (pool : Slots) (code : Code) → AreBytes code → SaysSomething pool code → (¬ IsForeign pool code) × (¬ IsAtFault pool code) }
     ensures foreign_only { (pool : Slots) (code : Code) → AreBytes code → IsForeign pool code → ¬ IsAtFault pool code }
+    // A fault is one of a code.
+    ensures kinds { (pool : Slots) (code : Code) (kind : ClassKind) (at : ℕ) → AreBytes code → HasFault pool code kind at → IsTrue (is_code_fault kind) }
     // It says one thing at most, and has one first fault at most.
     ensures one_code { (pool : Slots) (code : Code) (first second : DecodedCode) → AreBytes code → IsDecoded pool code first → IsDecoded pool code second → first ≡ second }
     ensures one_fault { (pool : Slots) (code : Code) (kind other_kind : ClassKind) (at other : ℕ) → AreBytes code → HasFault pool code kind at → HasFault pool code other_kind other → (kind ≡ other_kind) × (at ≡ other) }
