@@ -18,3 +18,4 @@ mod Loops
 mod Numbering
 mod Keys
 mod Members
+mod Lying

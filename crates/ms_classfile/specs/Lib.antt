@@ -6,3 +6,4 @@ pub mod ClassFile
 pub mod ClassViews
 pub mod ClassFinds
 pub mod Seen
+pub mod ClassLaws

@@ -1,8 +1,9 @@
 //! How a class file is read, part by part.
 
-ghost use Rattle.std.specs.Prelude.{◌≡◌, ◌⊎◌, ◌<◌, All, IfErr, IfOk, List, ℕ};
+ghost use Rattle.std.specs.Prelude.{◌≡◌, ◌⊎◌, ◌<◌, All, IfErr, IfOk, List, length, ℕ};
 ghost use Rattle.ms_classfile.specs.ClassFile as files;
 ghost use Rattle.ms_classfile.specs.ClassFile.{IsClassFile, IsFirstFaultOf, class_file, counted, header, interface, is_object, pool, pool_fault, short, class_and_super};
+ghost use Rattle.ms_classfile.specs.ClassLaws.{HasCodeWithin};
 ghost use Rattle.ms_classfile.specs.ClassFinds.{Finds, Gives, Leads};
 ghost use Rattle.ms_classfile.specs.ClassViews.{class_view};
 ghost use Rattle.ms_classfile.specs.declared.fault.ClassFault as faults;
@@ -193,6 +194,8 @@ fn class<'a>(alloc: Global, bytes: &'a [u8]) -> Result<Class<'a>, ClassFault>
 pub fn read_class<'a>(alloc: Global, bytes: &'a [u8]) -> Result<Class<'a>, ClassFault>
     // The bytes are the class file of the class that is found.
     ensures class { IfOk result (λ class. IsClassFile bytes.now (class_view class)) }
+    // The code of each of its methods has from 1 to 65,535 bytes, and ends within the file, as its table does.
+    ensures codes { IfOk result (λ class. All (HasCodeWithin (length bytes.now)) (class_view class).methods) }
     // A fault is the first of bytes that are no class file, unless memory ran out.
     ensures fault { IfErr result (λ fault. (fault ≡ NoMemory) ⊎ IsFirstFaultOf bytes.now fault) }
 {
@@ -207,4 +210,10 @@ pub fn class_files_are_whole_or_have_a_fault()
     // They are that of one class at most, and have one first fault at most.
     ensures one_class { (bytes : List ℕ) (first second : files.Class) → All (λ byte. byte < 256) bytes → IsClassFile bytes first → IsClassFile bytes second → first ≡ second }
     ensures one_fault { (bytes : List ℕ) (first second : faults.ClassFault) → All (λ byte. byte < 256) bytes → IsFirstFaultOf bytes first → IsFirstFaultOf bytes second → first ≡ second }
+{}
+
+/// The law of codes in class files, of bytes below 256. It does nothing.
+pub fn codes_lie_in_their_file()
+    // The code of each method has from 1 to 65,535 bytes, and ends within the file, as its exception table does.
+    ensures { (bytes : List ℕ) (class : files.Class) → All (λ byte. byte < 256) bytes → IsClassFile bytes class → All (HasCodeWithin (length bytes)) class.methods }
 {}

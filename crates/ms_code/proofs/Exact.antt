@@ -18,7 +18,8 @@ use Rattle.ms_code.specs.Codes.{Code, DecodedCode, IsDecoded, Steps, at_end, dec
 use Rattle.ms_code.specs.Finds.{Gives}
 use Rattle.ms_code.specs.Instructions.{instruction}
 use Rattle.ms_code.specs.Rows.{HasTrouble}
-use Rattle.ms_code.proofs.Forward.{GoesOn, IsSound, IsTold, both_sound, done_sound, found_sound, instruction_sound}
+use Rattle.ms_pool.specs.Forward.{GoesOn, here_forward, stays}
+use Rattle.ms_code.proofs.Forward.{IsSound, IsTold, both_sound, done_sound, found_sound, instruction_sound}
 use Rattle.ms_code.proofs.Walks.{instruction_goes}
 
 at_end_exact : IsExact {Fault = Trouble} at_end
@@ -49,14 +50,14 @@ unless_exact (Some at) = record {
 here_sound : IsSound here
 here_sound = record {
   exact = here_exact;
-  forward = λ place y is. subst (λ (z : ℕ × Place). GoesOn place z.1) (ok_is {Fault = Trouble} (place.at, place) y is) (record { whole = refl; on = omega arith });
+  forward = here_forward;
   told = λ place trouble is. absurd (let e = is in cc);
 }
 
 at_end_sound : IsSound at_end
 at_end_sound = record {
   exact = at_end_exact;
-  forward = λ place y is. subst (λ (z : Bool × Place). GoesOn place z.1) (ok_is {Fault = Trouble} (length place.left == 0, place) y is) (record { whole = refl; on = omega arith });
+  forward = record { goes = λ place y is. subst (λ (z : Bool × Place). GoesOn place z.1) (ok_is {Fault = Trouble} (length place.left == 0, place) y is) (stays place) };
   told = λ place trouble is. absurd (let e = is in cc);
 }
 
@@ -79,12 +80,12 @@ step_sound pool code_at before =
 unless_sound : (astray : Option ℕ) → IsSound (unless astray)
 unless_sound None = record {
   exact = unless_exact None;
-  forward = λ place y is. subst (λ (z : Unit {0} × Place). GoesOn place z.1) (ok_is {Fault = Trouble} (tt, place) y is) (record { whole = refl; on = omega arith });
+  forward = record { goes = λ place y is. subst (λ (z : Unit {0} × Place). GoesOn place z.1) (ok_is {Fault = Trouble} (tt, place) y is) (stays place) };
   told = λ place trouble is. absurd (let e = is in cc);
 }
 unless_sound (Some at) = record {
   exact = unless_exact (Some at);
-  forward = λ place y is. absurd (let e = is in cc);
+  forward = record { goes = λ place y is. absurd (let e = is in cc) };
   told = λ place trouble is. subst IsTold (err_is {A = Unit {0} × Place} (At kinds.Target at) trouble is) refl;
 }
 

@@ -1,15 +1,14 @@
 -- What is read of an instruction lies behind where it was read from, and what is left ends where it ended.
-use Rattle.std.proofs.Common.{◌≡◌, ℕ, zero, suc, ◌+◌, ◌≤◌, List, [], ◌∷◌, ◌++◌, length, Bool, true, false, cond, ltb, Option, Some, None, Ok, Err, ℤ, pos, refl, subst, ◌∙◌, arith}
+use Rattle.std.proofs.Common.{◌≡◌, ℕ, zero, suc, ◌+◌, ◌≤◌, List, [], ◌∷◌, ◌++◌, length, Bool, true, false, cond, ltb, Option, Some, None, Ok, Err, ℤ, pos, refl, subst, arith}
 use Rattle.std.specs.Prelude.{not, int_lt, unsigned_abs, ◌-ℤ◌, ◌==◌}
 use Rattle.std.specs.Int.{cast_signed, w8, w16, w32}
-use Rattle.std.proofs.lemmas.Bool.{ltb-false}
-use Rattle.std.proofs.lemmas.List.{length-drop}
 use Rattle.ms_pool.specs.declared.cursor.Short.{Short}
 use Rattle.ms_pool.specs.declared.code.ClassKind.TheVariants as kinds
 use Rattle.ms_pool.specs.Pools.{Placed}
-use Rattle.ms_pool.specs.Places.{Place, behind}
+use Rattle.ms_pool.specs.Places.{Place}
 use Rattle.ms_pool.specs.Formats.{Format, number, run, done, found, check, ◌>>=◌, added, or_short, repeated}
-use Rattle.ms_pool.specs.Exact.{IsExact, both_exact, check_exact, done_exact, found_exact, number_exact, run_exact, err_is, ok_is, then_err, then_ok}
+use Rattle.ms_pool.specs.Forward.{IsForward, both_forward, check_forward, done_forward, found_forward, number_forward, on_of, run_forward}
+use Rattle.ms_pool.specs.Exact.{enough_ok, IsExact, both_exact, check_exact, done_exact, found_exact, number_exact, run_exact, err_is, then_err, then_ok}
 use Rattle.ms_pool.specs.Numbers.{width1, width2, width4}
 use Rattle.ms_code.specs.declared.form.Form.{Form}
 use Rattle.ms_code.specs.declared.form.Form.TheVariants.{Plain, SignedByte, SignedShort, ConstantByte, ConstantShort, LocalIndex, LocalAndByte, BranchShort, TableCases, LookupCases, FieldIndex, ConstructorIndex, MethodIndex, ClassIndex, ArrayType, Widened, BranchInt}
@@ -22,11 +21,6 @@ use Rattle.ms_code.specs.Keys.{keys_ascend}
 use Rattle.ms_code.specs.Laws.{is_code_fault}
 use Rattle.ms_code.specs.Opcodes.{form_of}
 
--- the place goes on, and what is left ends where it ended
-pub record GoesOn (place after : Place) : Type 0 where
-  pub whole : after.at + length after.left ≡ place.at + length place.left
-  pub on : place.at ≤ after.at
-
 -- a trouble that a code has, and not memory
 abbrev pub IsTold : Trouble → Type 0
 IsTold Foreign = Unit {0}
@@ -36,22 +30,8 @@ IsTold NoMemory = ⊥
 -- A format that is exact, goes on where it is read, and never tells that memory ran out.
 pub record IsSound {X : Type 0} (format : Format Trouble X) : Type 0 where
   pub exact : IsExact format
-  pub forward : (place : Place) (x : X × Place) → format.read place ≡ Ok x → GoesOn place x.1
+  pub forward : IsForward format
   pub told : (place : Place) (trouble : Trouble) → format.read place ≡ Err trouble → IsTold trouble
-
-stays : (place : Place) → GoesOn place place
-stays place = record { whole = refl; on = omega arith }
-
-goes_on_behind : (n : ℕ) (place : Place) → n ≤ length place.left → GoesOn place (behind place n)
-goes_on_behind n place enough = record { whole = omega (arith, length-drop n place.left); on = omega arith }
-
--- what was read where enough bytes are left
-enough_ok : {X : Type 0} (short : ℕ → Trouble) (n : ℕ) (place : Place) (missing : Short) (x y : X) → or_short short (cond (ltb (length place.left) n) (Err missing) (Ok x)) ≡ Ok y → (n ≤ length place.left) × (x ≡ y)
-enough_ok short n place missing x y found = by_test (ltb (length place.left) n) refl found
-  where
-    by_test : (b : Bool) → ltb (length place.left) n ≡ b → or_short short (cond b (Err missing) (Ok x)) ≡ Ok y → (n ≤ length place.left) × (x ≡ y)
-    by_test true is found = absurd cc
-    by_test false is found = (ltb-false _ _ is, ok_is {Fault = Trouble} x y found)
 
 -- the trouble of a part for which too few bytes are left
 enough_told : {X : Type 0} (place : ℕ) (b : Bool) (missing : Short) (x : X) (trouble : Trouble) → or_short (cut place) (cond b (Err missing) (Ok x)) ≡ Err trouble → IsTold trouble
@@ -61,59 +41,50 @@ enough_told place false missing x trouble found = absurd (let e = found in cc)
 number_sound : (place n : ℕ) → IsExact (number (cut place) n) → IsSound (number (cut place) n)
 number_sound place n exact = record {
   exact = exact;
-  forward = λ start x found.
-      let p = enough_ok (cut place) n start (record { at = start.at }) _ x found in
-      subst (λ (y : ℕ × Place). GoesOn start y.1) p.1 (goes_on_behind n start p.0);
+  forward = number_forward (cut place) n;
   told = λ start trouble found. enough_told place (ltb (length start.left) n) (record { at = start.at }) _ trouble found;
 }
 
 run_sound : (place n : ℕ) → IsSound (run (cut place) n)
 run_sound place n = record {
   exact = run_exact (cut place) n;
-  forward = λ start x found.
-      let p = enough_ok (cut place) n start (record { at = start.at }) _ x found in
-      subst (λ (y : List ℕ × Place). GoesOn start y.1) p.1 (goes_on_behind n start p.0);
+  forward = run_forward (cut place) n;
   told = λ start trouble found. enough_told place (ltb (length start.left) n) (record { at = start.at }) _ trouble found;
 }
 
 pub done_sound : {X : Type 0} (x : X) → IsSound (done x)
 done_sound {X = X} x = record {
   exact = done_exact x;
-  forward = λ place y found. subst (λ (z : X × Place). GoesOn place z.1) (ok_is {Fault = Trouble} (x, place) y found) (stays place);
+  forward = done_forward x;
   told = λ place trouble found. absurd (let e = found in cc);
 }
 
 pub found_sound : {X : Type 0} (option : Option X) → IsSound (found option Foreign)
-found_sound {X = X} (Some x) = record {
-  exact = found_exact (Some x) Foreign;
-  forward = λ place y is. subst (λ (z : X × Place). GoesOn place z.1) (ok_is {Fault = Trouble} (x, place) y is) (stays place);
-  told = λ place trouble is. absurd (let e = is in cc);
+found_sound {X = X} option = record {
+  exact = found_exact option Foreign;
+  forward = found_forward option Foreign;
+  told = λ place trouble is. by_option option place trouble is;
 }
-found_sound {X = X} None = record {
-  exact = found_exact None Foreign;
-  forward = λ place y is. absurd (let e = is in cc);
-  told = λ place trouble is. subst IsTold (err_is {A = X × Place} Foreign trouble is) tt;
-}
+  where
+    by_option : (o : Option X) (place : Place) (trouble : Trouble) → (found o Foreign).read place ≡ Err trouble → IsTold trouble
+    by_option (Some x) place trouble is = absurd (let e = is in cc)
+    by_option None place trouble is = subst IsTold (err_is {A = X × Place} Foreign trouble is) tt
 
 check_sound : (test : Bool) (trouble : Trouble) → IsTold trouble → IsSound (check test trouble)
-check_sound true trouble is_told = record {
-  exact = check_exact true trouble;
-  forward = λ place y is. subst (λ (z : Unit {0} × Place). GoesOn place z.1) (ok_is {Fault = Trouble} (tt, place) y is) (stays place);
-  told = λ place other is. absurd (let e = is in cc);
+check_sound test trouble is_told = record {
+  exact = check_exact test trouble;
+  forward = check_forward test trouble;
+  told = λ place other is. by_test test place other is;
 }
-check_sound false trouble is_told = record {
-  exact = check_exact false trouble;
-  forward = λ place y is. absurd (let e = is in cc);
-  told = λ place other is. subst IsTold (err_is {A = Unit {0} × Place} trouble other is) is_told;
-}
-
-on_and_on : (place between after : Place) → GoesOn place between → GoesOn between after → GoesOn place after
-on_and_on place between after first rest = record { whole = rest.whole ∙ first.whole; on = omega (arith, first.on, rest.on) }
+  where
+    by_test : (b : Bool) (place : Place) (other : Trouble) → (check b trouble).read place ≡ Err other → IsTold other
+    by_test true place other is = absurd (let e = is in cc)
+    by_test false place other is = subst IsTold (err_is {A = Unit {0} × Place} trouble other is) is_told
 
 pub both_sound : {X Y : Type 0} (first : Format Trouble X) (rest : X → Format Trouble Y) → IsSound first → ((x : X) → IsSound (rest x)) → IsSound (first >>= rest)
 both_sound first rest one more = record {
   exact = both_exact first rest one.exact (λ x. (more x).exact);
-  forward = λ place y found. then_ok (first.read place) _ y found (λ x is_first is_rest. on_and_on place x.1 y.1 (one.forward place x is_first) ((more x.0).forward x.1 y is_rest));
+  forward = both_forward first rest one.forward (λ x. (more x).forward);
   told = λ place trouble found. then_err (first.read place) _ trouble found (λ is_first. one.told place trouble is_first) (λ x is_first is_rest. (more x.0).told x.1 trouble is_rest);
 }
 
@@ -227,7 +198,7 @@ pub instruction_has_byte : (pool : List (Option Placed)) (code_at offset : ℕ) 
 unfolding instruction
 instruction_has_byte pool code_at offset place x is =
     then_ok ((u1 code_at).read place) _ x is (λ op is_op rest.
-    let p = enough_ok (cut code_at) 1 place (record { at = place.at }) _ op is_op in
+    let p = enough_ok (cut code_at) 1 place _ op is_op in
     let one : place.at + 1 ≤ op.1.at = subst (λ (y : ℕ × Place). place.at + 1 ≤ y.1.at) p.1 (omega arith) in
-    let more = (both_sound (found (form_of op.0) Foreign) _ (found_sound (form_of op.0)) (behind_sound pool code_at offset op.0)).forward op.1 x rest in
-    omega (arith, one, more.on))
+    let more = (both_sound (found (form_of op.0) Foreign) _ (found_sound (form_of op.0)) (behind_sound pool code_at offset op.0)).forward.goes op.1 x rest in
+    omega (arith, one, on_of op.1 x.1 more))

@@ -5,6 +5,7 @@ use Rattle.std.proofs.lemmas.Bool.{ne_eqb}
 use Rattle.ms_pool.specs.Pools.{Placed}
 use Rattle.ms_pool.specs.Places.{Place}
 use Rattle.ms_pool.specs.Formats.{Format, and_then}
+use Rattle.ms_pool.specs.Forward.{whole_of}
 use Rattle.ms_pool.specs.Exact.{ok_is, then_ok}
 use Rattle.ms_code.specs.declared.trouble.Trouble.{Trouble}
 use Rattle.ms_code.specs.declared.trouble.Trouble.TheVariants.{Foreign, At, NoMemory}
@@ -21,7 +22,7 @@ pub record GoesFurther (place after : Place) : Type 0 where
 
 pub instruction_goes : (pool : List (Option Placed)) (code_at offset : ℕ) (place : Place) (instr : Instr) (after : Place) → (instruction pool code_at offset).read place ≡ Ok (instr, after) → GoesFurther place after
 instruction_goes pool code_at offset place instr after found = record {
-  whole = ((instruction_sound pool code_at offset).forward place (instr, after) found).whole;
+  whole = whole_of place after ((instruction_sound pool code_at offset).forward.goes place (instr, after) found);
   on = instruction_has_byte pool code_at offset place (instr, after) found;
 }
 

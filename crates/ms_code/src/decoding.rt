@@ -90,9 +90,9 @@ fn decoded(
 /// Not looked at are the number of locals, which an index may pass, and how many places the arguments of
 /// a call take. A code of no bytes is decoded as no instructions.
 ///
-/// The code has at most 65,535 bytes, and code and table end at places that are numbers of 64 bits: so it
-/// is in a class file, by its format, but no clause of `read_class` hands that on yet. That memory ran
-/// out has no cause in a clause.
+/// The code has at most 65,535 bytes, and code and table end at places that are numbers of 64 bits: each
+/// row that `read_class` gives is such, by its clause `codes`. That memory ran out has no cause in a
+/// clause.
 pub fn decode(alloc: Global, row: &CodeRow<'_>, pool: &Pool<'_>) -> Result<Coded, CodeFault>
     requires short { length row.now.code.now < 2 ^ 16 }
     requires code { row.now.code_at + length row.now.code.now < 2 ^ 64 }

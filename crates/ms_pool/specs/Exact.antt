@@ -28,10 +28,11 @@ err_is x y e = cc
 -- WHETHER ENOUGH BYTES ARE LEFT
 
 -- what stands from a place on, where n bytes are left
-abbrev if_enough : {X : Type 0} → ℕ → Place → X → Result X Short
+abbrev pub if_enough : {X : Type 0} → ℕ → Place → X → Result X Short
 if_enough n place x = cond (ltb (length place.left) n) (Err (record { at = place.at })) (Ok x)
 
-enough_ok : {Fault X : Type 0} (short : ℕ → Fault) (n : ℕ) (place : Place) (x y : X) → or_short short (if_enough n place x) ≡ Ok y → (n ≤ length place.left) × (x ≡ y)
+-- where something stands there, enough bytes are left, and this is it
+pub enough_ok : {Fault X : Type 0} (short : ℕ → Fault) (n : ℕ) (place : Place) (x y : X) → or_short short (if_enough n place x) ≡ Ok y → (n ≤ length place.left) × (x ≡ y)
 enough_ok short n place x y found = by_test (ltb (length place.left) n) refl found
   where
     by_test : (b : Bool) → ltb (length place.left) n ≡ b → or_short short (cond b (Err (record { at = place.at })) (Ok x)) ≡ Ok y → (n ≤ length place.left) × (x ≡ y)

@@ -3,6 +3,7 @@ pub mod Numbers
 pub mod Formats
 pub mod Exact
 pub mod Loops
+pub mod Forward
 pub mod Pools
 pub mod PoolReading
 pub mod ByNumber

@@ -1,7 +1,9 @@
 //! Class files, and the first faults of bytes that are none.
 
 use crate::javac;
-use ms_classfile::{Class, ClassFault, class_files_are_whole_or_have_a_fault, read_class};
+use ms_classfile::{
+    Class, ClassFault, class_files_are_whole_or_have_a_fault, codes_lie_in_their_file, read_class,
+};
 use ms_pool::{ClassKind, Out, RawHandler};
 use std::alloc::{AllocError, Global};
 use std::test::Fail;
@@ -43,6 +45,7 @@ fn fault_of(alloc: Global, bytes: &[u8]) -> Option<ClassFault> {
 #[test]
 fn laws_do_nothing(_rt: HostRuntime) {
     class_files_are_whole_or_have_a_fault();
+    codes_lie_in_their_file();
 }
 
 #[test]
