@@ -7,6 +7,8 @@
 #[cfg(test)]
 mod classes;
 #[cfg(test)]
+mod codes;
+#[cfg(test)]
 mod javac;
 #[cfg(test)]
 mod pools;
