@@ -1,5 +1,5 @@
 -- The file of a plan spells the plan's class.
-use Rattle.std.proofs.Common.{◌≡◌, ℕ, ◌+◌, ◌≤◌, Bool, true, false, not, ltb, List, [], ◌++◌, length, map, Option, Some, None, is_some, refl, ap, subst, append_assoc, length-append, arith}
+use Rattle.std.proofs.Common.{◌≡◌, ℕ, ◌+◌, ◌≤◌, Bool, true, false, not, ltb, List, [], ◌++◌, length, map, Option, Some, None, is_some, refl, sym, ap, subst, ◌∙◌, append_assoc, length-append, arith}
 use Rattle.std.specs.Prelude.{◌&&◌, ◌==◌, codes, nat_le}
 use Rattle.std.specs.List.{AllByRecursion, flat_map, list_all, list_any}
 use Rattle.std.proofs.lemmas.Bool.{or_parts, ltb-false}
@@ -197,3 +197,10 @@ sized plan is = (or_parts (has_too_many (pool_of plan) plan) (ltb 1048576 (lengt
 -- what is written is the class file of the plan's class
 pub read_back : (plan : Plan) → list_all (is_linked plan.lines) plan.lines ≡ true → is_too_large plan ≡ false → HasTypes plan → IsReadable plan → IsClassFile (layout plan) (class_of plan)
 read_back plan linked fits types readable = file_spelled (pool_of plan) plan (sized plan fits) (sound_pool plan linked).is (pool_fits plan types) types readable (pool_has plan)
+
+-- what was written of these entries, which aren't too many
+pub written_back : (plan : Plan) (lines : List PoolLine) (bytes : List ℕ) → has_too_many lines plan ≡ false → lines ≡ pool_of plan → bytes ≡ layout_with lines plan → list_all (is_linked plan.lines) plan.lines ≡ true → HasTypes plan → IsReadable plan → IsClassFile bytes (class_of plan)
+written_back plan lines bytes few is written linked types readable =
+    let fits : has_too_many (pool_of plan) plan ≡ false = subst (λ (l : List PoolLine). has_too_many l plan ≡ false) is few in
+    let whole : bytes ≡ layout_with (pool_of plan) plan = written ∙ ap (λ (l : List PoolLine). layout_with l plan) is in
+    subst (λ (l : List ℕ). IsClassFile l (class_of plan)) (sym whole) (file_spelled (pool_of plan) plan fits (sound_pool plan linked).is (pool_fits plan types) types readable (pool_has plan))

@@ -17,8 +17,8 @@ use Rattle.ms_classwrite.specs.Layout.{class_number, pool_of, spelled_class, spe
 abbrev pub field_of : List PoolLine → PlanField → Field
 field_of pool field = record { access = field.access; name = field.name; name_index = text_number pool field.name; desc = field.desc; desc_index = text_number pool field.desc; initial = unwrap_or field.constant (pos 0) }
 
--- the Code of a method that begins at this place: 22 bytes stand before its code, and two behind it, the number of its
--- handlers
+-- the Code of a method that begins at this place: 22 bytes stand before its code, and two, the number of its handlers,
+-- between it and them
 abbrev pub code_of : ℕ → PlanMethod → Code
 code_of at method = record { max_stack = method.max_stack; max_locals = method.max_locals; code = method.code; code_at = at + 22; table = []; table_at = at + 22 + length method.code + 2 }
 
@@ -68,14 +68,15 @@ abbrev pub LineFits : PoolLine → Type 0
 LineFits (Integer int) = FitsSigned w32 int
 LineFits line = Unit {0}
 
--- each number of the plan fits, as it does by its type
+-- each number of the plan fits, as it does by its type: each `ClassPlan` has this as its invariant
 pub record HasTypes (plan : Plan) : Type 0 where
   pub lines : All LineFits plan.lines
   pub fields : All FieldFits plan.fields
   pub methods : All MethodFits plan.methods
 
--- a plan that is read back: the class has the name of none of the known throwables, each field with a constant is static
--- and of kind Z, B, C, S or I, no code is empty, and no two fields and no two methods have name and descriptor in common
+-- what a plan needs to be read back, where it is one that is written: the class has the name of none of the known
+-- throwables, each field with a constant is static and of kind Z, B, C, S or I, no code is empty, and no two fields and no
+-- two methods have name and descriptor in common
 pub record IsReadable (plan : Plan) : Type 0 where
   pub other : thrown_named plan.name ≡ None
   pub constants : All (λ (field : PlanField). IfSome field.constant (λ int. (is_static field.access && is_int_kind field.desc) ≡ true)) plan.fields

@@ -1,4 +1,5 @@
 ghost use Rattle.std.specs.Prelude.{◌≡◌, ◌∷◌, ◌++◌, [], OnErr, OnOk};
+ghost use Rattle.ms_classwrite.specs.ReadBack.{HasTypes};
 
 use crate::{NoMemory, Octets};
 use std::alloc::Global;
@@ -65,10 +66,13 @@ pub struct ClassPlan {
 
 impl Model for ClassPlan {
     ghost use Rattle.ms_classwrite.specs.Plans.{Plan};
+    ghost use Rattle.ms_classwrite.specs.ReadBack.{HasTypes};
 
     ghost Value = { Plan };
 
     ghost view = { λ plan. record { name = plan.name; lines = plan.lines.items; fields = plan.fields.items; methods = plan.methods.items } };
+
+    ghost invariant = { λ plan. HasTypes (record { name = plan.name; lines = plan.lines.items; fields = plan.fields.items; methods = plan.methods.items }) };
 }
 
 impl ClassPlan {
@@ -109,6 +113,13 @@ impl ClassPlan {
     {
         self.methods.push(method)?;
         Ok(())
+    }
+
+    /// The law of the numbers in a plan: each fits, by its type. It does nothing.
+    pub fn numbers_fit(&self)
+        ensures { HasTypes self.now }
+    {
+        let _ = &self.lines;
     }
 
     /// The name of the class, lent.

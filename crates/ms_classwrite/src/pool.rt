@@ -21,7 +21,7 @@ fn own_lines<'a>(alloc: Global, own: &'a [PoolLine]) -> Result<Lines<'a>, NoMemo
     Ok(lines)
 }
 
-/// Adds the name of a class, and the class. Its number is refused where it is above the greatest number.
+/// Adds the name of a class, and the class. The name is refused where its number would be above the greatest.
 #[tactic(auto, unfolding(crate::specs::Layout::with_class))]
 fn add_class<'a>(lines: &mut Lines<'a>, name: &'a [u8]) -> Result<(), WriteRefusal>
     ensures ok { OnOk result (lines.new ≡ with_class lines.old name.now) }

@@ -1,8 +1,10 @@
 ghost use Rattle.std.specs.Prelude.{◌≡◌, ◌++◌, Err, IfOk, OnOk, false, true};
 ghost use Rattle.ms_pool.specs.Pools.{u2, u4};
+ghost use Rattle.ms_classfile.specs.ClassFile.{IsClassFile};
 ghost use Rattle.ms_classwrite.specs.declared.refusal.WriteRefusal.TheVariants.{TooMany};
 ghost use Rattle.ms_classwrite.specs.Layout.{has_too_many, is_too_large, layout, layout_with, spelled_class, spelled_fields, spelled_methods, spelled_start};
 ghost use Rattle.ms_classwrite.specs.Plans.{AreDifferent, AreLinked};
+ghost use Rattle.ms_classwrite.specs.ReadBack.{IsReadable, class_of};
 
 use crate::limits::{MAX_FILE, has_too_many};
 use crate::lines::Lines;
@@ -53,11 +55,16 @@ fn file(alloc: Global, lines: &Lines<'_>, plan: &ClassPlan) -> Result<Vec<u8>, N
     Ok(out.into_bytes())
 }
 
-/// Writes the class file that the plan is (JVMS SE 8, chapter 4): of major version 52, of a public class
-/// directly below java/lang/Object without interfaces and attributes. The plan's lines are the first
-/// entries of its constant pool; behind them stand, where they aren't there yet, the names and
-/// descriptors of all, the class and its superclass, the ints of constants, and the names of the
-/// attributes. The bytes take memory, as does what finds equal entries.
+/// Writes the class file that the plan is (JVMS SE 8, chapter 4): of version 52.0, of a public class
+/// directly below java/lang/Object, without interfaces and attributes. The plan's lines, of which no two
+/// are the same, and each number in which is that of a line of the wanted kind, are the first entries of
+/// its constant pool. Behind them stand, where they aren't there yet and in the order in which the file
+/// comes to them: the class's name and the class, java/lang/Object's, each field's name, descriptor,
+/// the name ConstantValue and its int, each method's name, descriptor and the name Code.
+///
+/// A plan is refused where the pool would have more than 65,534 entries, there are more than 65,535 fields
+/// or methods, a text or a code has more than 65,535 bytes, or the file more than a mebibyte. The bytes
+/// take memory, as does what finds equal entries.
 pub fn write_class(alloc: Global, plan: &ClassPlan) -> Result<Vec<u8>, WriteRefusal>
     requires different { AreDifferent plan.now.lines }
     requires linked { AreLinked plan.now.lines }
@@ -68,7 +75,11 @@ pub fn write_class(alloc: Global, plan: &ClassPlan) -> Result<Vec<u8>, WriteRefu
     // A plan that is too large is refused as such, and no other, unless memory runs out.
     ensures fits { OnOk result (is_too_large plan.now ≡ false) }
     ensures too_many { result ≡ Err TooMany → is_too_large plan.now ≡ true }
+
+    // The bytes are the class file of the plan's class, where the plan can be read back.
+    ensures read { IfOk result (λ bytes. IsReadable plan.now → IsClassFile bytes.items (class_of plan.now)) }
 {
+    plan.numbers_fit();
     let lines = pool_of(alloc, plan)?;
     if has_too_many(&lines, plan) {
         return Err(WriteRefusal::TooMany);

@@ -56,7 +56,7 @@ fn method(
     alloc: Global,
     name: &[u8],
     desc: &[u8],
-    max: u16,
+    max_locals: u16,
     code: &[u8],
 ) -> Result<PlanMethod, NoMemory> {
     Ok(PlanMethod {
@@ -64,7 +64,7 @@ fn method(
         name: octets(alloc, name)?,
         desc: octets(alloc, desc)?,
         max_stack: 2,
-        max_locals: max,
+        max_locals,
         code: octets(alloc, code)?,
     })
 }
