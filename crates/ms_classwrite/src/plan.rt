@@ -119,6 +119,7 @@ impl ClassPlan {
     pub fn numbers_fit(&self)
         ensures { HasTypes self.now }
     {
+        // A look into the plan is what tells its invariant.
         let _ = &self.lines;
     }
 
