@@ -56,15 +56,15 @@ fn file(alloc: Global, lines: &Lines<'_>, plan: &ClassPlan) -> Result<Vec<u8>, N
 }
 
 /// Writes the class file that the plan is (JVMS SE 8, chapter 4): of version 52.0, of a public class
-/// directly below java/lang/Object, without interfaces and attributes. The plan's lines, of which no two
-/// are the same, and each number in which is that of a line of the wanted kind, are the first entries of
-/// its constant pool. Behind them stand, where they aren't there yet and in the order in which the file
+/// directly below java/lang/Object, without interfaces and attributes. The plan's lines are the first
+/// entries of its constant pool: no two of them are the same, and each number in one is that of a line of
+/// the wanted kind. Behind them stand, where they aren't there yet and in the order in which the file
 /// comes to them: the class's name and the class, java/lang/Object's, each field's name, descriptor,
 /// the name ConstantValue and its int, each method's name, descriptor and the name Code.
 ///
 /// A plan is refused where the pool would have more than 65,534 entries, there are more than 65,535 fields
 /// or methods, a text or a code has more than 65,535 bytes, or the file more than a mebibyte. The bytes
-/// take memory, as does what finds equal entries.
+/// take memory, as does what finds equal entries; that memory ran out has no cause in a clause.
 pub fn write_class(alloc: Global, plan: &ClassPlan) -> Result<Vec<u8>, WriteRefusal>
     requires different { AreDifferent plan.now.lines }
     requires linked { AreLinked plan.now.lines }

@@ -26,8 +26,8 @@ pub enum ClassKind {
     Trailing,
     /// An instruction passes the end of the code.
     Cut,
-    /// A branch, or an entry of an exception table, leads to no instruction's start, or an entry's range
-    /// is empty. Its end may be the end of the code.
+    /// A branch, a switch, or an entry of an exception table leads to no instruction's start, or an entry's
+    /// range doesn't end behind its begin. It may end at the end of the code.
     Target,
     /// The bounds or the keys of a switch aren't in order, or the number of its keys is negative.
     Switch,
