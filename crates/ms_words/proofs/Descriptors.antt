@@ -1,5 +1,5 @@
 -- What is read of a descriptor is what it spells.
-use Rattle.std.proofs.Common.{◌≡◌, ℕ, List, [], ◌∷◌, ◌++◌, Bool, true, false, cond, Option, Some, None, refl, sym, ap, subst, ◌∙◌, append_assoc}
+use Rattle.std.proofs.Common.{◌≡◌, ℕ, ◌+◌, List, [], ◌∷◌, ◌++◌, Bool, true, false, cond, Option, Some, None, refl, sym, ap, subst, ◌∙◌, append_assoc, arith}
 use Rattle.std.specs.Prelude.{◌==◌, ◌&&◌, option_map, option_and_then}
 use Rattle.std.specs.List.{flat_map}
 use Rattle.std.proofs.lemmas.Bool.{eqb-true}
@@ -7,7 +7,7 @@ use Rattle.ms_words.specs.declared.kind.Kind.{Kind}
 use Rattle.ms_words.specs.declared.kind.Kind.TheVariants.{Z, B, C, S, I}
 use Rattle.ms_words.specs.declared.descriptor.FieldType.{FieldType}
 use Rattle.ms_words.specs.declared.descriptor.FieldType.TheVariants.{Int, IntArray}
-use Rattle.ms_words.specs.Descriptors.{Signature, field_type_of, kind_of, letter, result_of, signature_of, spelled_result, spelled_signature, spelled_type, types_in, with_type}
+use Rattle.ms_words.specs.Descriptors.{Signature, counted, field_type_of, kind_of, letter, result_of, signature_of, spelled_result, spelled_signature, spelled_type, types_in, with_type}
 
 abbrev some : {A : Type 0} → A → Option A
 some x = Some x
@@ -24,7 +24,7 @@ letter_again C = refl
 letter_again S = refl
 letter_again I = refl
 
-letter_is : (byte : ℕ) (kind : Kind) → kind_of byte ≡ Some kind → byte ≡ letter kind
+pub letter_is : (byte : ℕ) (kind : Kind) → kind_of byte ≡ Some kind → byte ≡ letter kind
 letter_is byte kind found = by_z (90 == byte) refl
   where
     named : (k : Kind) → (letter k == byte) ≡ true → kind_of byte ≡ Some k → byte ≡ letter kind
@@ -160,10 +160,21 @@ signature_again signature =
 
 -- THE LOOP
 
--- what stands behind the parameters is what stands behind those that are left
-abbrev pub IsBehind : List ℕ → Bool → List ℕ → Type 0
-IsBehind text in_array left = option_map (λ (found : List FieldType × List ℕ). found.1) (types_in in_array left) ≡ option_map (λ (found : List FieldType × List ℕ). found.1) (types_in false text)
+-- the types and what stands behind them, so many more
+abbrev more : ℕ → ℕ × List ℕ → ℕ × List ℕ
+more count found = (count + found.0, found.1)
 
-pub with_type_behind : (field_type : FieldType) (found : Option (List FieldType × List ℕ)) → option_map (λ (found : List FieldType × List ℕ). found.1) (with_type field_type found) ≡ option_map (λ (found : List FieldType × List ℕ). found.1) found
-with_type_behind field_type None = refl
-with_type_behind field_type (Some x) = refl
+-- The parameters are those that were counted and those that are left, and what stands behind them is what stands behind
+-- those.
+abbrev pub IsCounted : List ℕ → ℕ → Bool → List ℕ → Type 0
+IsCounted text count in_array left = option_map counted (types_in false text) ≡ option_map (more count) (option_map counted (types_in in_array left))
+
+-- one more was read
+pub one_more : (count : ℕ) (field_type : FieldType) (found : Option (List FieldType × List ℕ)) → option_map (more count) (option_map counted (with_type field_type found)) ≡ option_map (more (count + 1)) (option_map counted found)
+one_more count field_type None = refl
+one_more count field_type (Some x) = ap (λ (n : ℕ). some (n, x.1)) (omega arith)
+
+-- nothing was read yet
+pub none_counted : (found : Option (List FieldType × List ℕ)) → option_map counted found ≡ option_map (more 0) (option_map counted found)
+none_counted None = refl
+none_counted (Some x) = ap (λ (n : ℕ). some (n, x.1)) (omega arith)

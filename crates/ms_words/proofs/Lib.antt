@@ -1,3 +1,4 @@
 pub mod Places
 mod Computed
 pub mod Descriptors
+pub mod EntryParts

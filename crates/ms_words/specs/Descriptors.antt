@@ -1,8 +1,9 @@
 -- Descriptors of fields and methods (JVMS SE 8, section 4.3), of the types that the machine knows.
-use Rattle.std.specs.Prelude.{ℕ, List, [], ◌∷◌, ◌++◌, Bool, true, false, ◌&&◌, ◌==◌, if◌then◌else◌, Option, Some, None, codes, find, option_map, option_and_then}
+use Rattle.std.specs.Prelude.{ℕ, List, [], ◌∷◌, ◌++◌, length, Bool, true, false, ◌&&◌, ◌==◌, nat_le, if◌then◌else◌, Option, Some, None, codes, find, option_map, option_and_then}
 use Rattle.std.specs.List.{flat_map}
 use Rattle.ms_words.specs.declared.kind.Kind.{Kind}
 use Rattle.ms_words.specs.declared.kind.Kind.TheVariants.{Z, B, C, S, I}
+use Rattle.ms_words.specs.declared.descriptor.EntryPart.{EntryPart}
 use Rattle.ms_words.specs.declared.descriptor.FieldType.{FieldType}
 use Rattle.ms_words.specs.declared.descriptor.FieldType.TheVariants.{Int, IntArray}
 
@@ -61,6 +62,10 @@ types_in false (byte ∷ bytes) =
     else (if byte == 91 then types_in true bytes
     else option_and_then (λ kind. with_type (Int kind) (types_in false bytes)) (kind_of byte))
 
+-- how many types there are, and what stands behind them
+abbrev pub counted : List FieldType × List ℕ → ℕ × List ℕ
+counted found = (length found.0, found.1)
+
 -- the result that these bytes name, where it is void or a known type
 abbrev pub result_of : List ℕ → Option (Option FieldType)
 result_of [] = None
@@ -73,3 +78,44 @@ signature_of [] = None
 signature_of (byte ∷ bytes) =
     if byte == 40 then option_and_then (λ found. option_map (λ result. record { parameters = found.0; result = result }) (result_of found.1)) (types_in false bytes)
     else None
+
+-- THE ENTRY'S
+
+-- the kind of a type, where it is an int's
+abbrev pub kind_in : FieldType → Option Kind
+kind_in (Int kind) = Some kind
+kind_in IntArray = None
+
+-- the kinds of types, where each is an int's
+abbrev pub kinds_in : List FieldType → Option (List Kind)
+kinds_in [] = Some []
+kinds_in (field_type ∷ types) = option_and_then (λ kind. option_map (λ (kinds : List Kind). kind ∷ kinds) (kinds_in types)) (kind_in field_type)
+
+-- the kind of a result, where it is an int's or void
+abbrev pub result_kind : Option FieldType → Option (Option Kind)
+result_kind None = Some None
+result_kind (Some field_type) = option_map (λ kind. Some kind) (kind_in field_type)
+
+-- these parameters and this result
+abbrev pub part : List Kind → Option Kind → EntryPart
+part kinds result = record { kinds = kinds; result = result }
+
+-- the same, where there are at most eight parameters
+abbrev pub at_most_eight : List Kind → Option Kind → Option EntryPart
+at_most_eight kinds result = if nat_le (length kinds) 8 then Some (part kinds result) else None
+
+-- what an entry with this descriptor takes and returns, where it has at most eight parameters, each an int, and the
+-- result is an int or void
+abbrev pub entry_part_of : List ℕ → Option EntryPart
+entry_part_of desc =
+    option_and_then (λ signature.
+    option_and_then (λ kinds.
+    option_and_then (at_most_eight kinds) (result_kind signature.result)) (kinds_in signature.parameters)) (signature_of desc)
+
+-- for private functions: the kinds of the types that were found, and what stands behind them, where each is an int's
+abbrev pub ints_in : Option (List FieldType × List ℕ) → Option (List Kind × List ℕ)
+ints_in found = option_and_then (λ (types : List FieldType × List ℕ). option_map (λ (kinds : List Kind). (kinds, types.1)) (kinds_in types.0)) found
+
+-- for private functions: the same, where there are at most eight
+abbrev pub few : Option (List Kind × List ℕ) → Option (List Kind × List ℕ)
+few found = option_and_then (λ (ints : List Kind × List ℕ). if nat_le (length ints.0) 8 then Some ints else None) found

@@ -1,8 +1,8 @@
-ghost use Rattle.std.specs.Prelude.{◌≡◌, ◌↔◌, List, Some, false, is_some, option_map, ℕ};
-ghost use Rattle.ms_words.specs.Descriptors.{Signature, field_type_of, kind_of, signature_of, spelled_signature, spelled_type, types_in};
+ghost use Rattle.std.specs.Prelude.{◌≡◌, ◌↔◌, List, Some, false, is_some, length, option_and_then, option_map, ℕ};
+ghost use Rattle.ms_words.specs.Descriptors.{Signature, counted, entry_part_of, few, field_type_of, ints_in, kind_of, part, result_kind, result_of, signature_of, spelled_signature, spelled_type, types_in};
 ghost use Rattle.ms_words.specs.declared.descriptor.FieldType as types;
 
-use crate::Kind;
+use crate::{Kind, Kinds};
 
 /// What a field, a parameter or a result holds, of the types that the machine knows (JVMS SE 8, section
 /// 4.3.2): an int of a kind, or an array of ints.
@@ -10,6 +10,13 @@ use crate::Kind;
 pub enum FieldType {
     Int(Kind),
     IntArray,
+}
+
+/// What an entry takes and returns: ints of these kinds, and an int of one, or nothing.
+#[derive(Clone, Copy)]
+pub struct EntryPart {
+    pub kinds: Kinds,
+    pub result: Option<Kind>,
 }
 
 /// The kind that a letter of a descriptor stands for (table 4.3-A).
@@ -38,26 +45,55 @@ pub fn field_type(desc: &[u8]) -> Option<FieldType>
     }
 }
 
-/// What stands behind the parenthesis that closes the parameters, where each of them is of a known type.
-fn behind_parameters(text: &[u8]) -> Option<&[u8]>
-    ensures { option_map (λ rest. rest.now) result ≡ option_map (λ found. found.1) (types_in false text.now) }
+/// How many parameters there are, each of a known type, up to the parenthesis that closes them, and what
+/// stands behind it.
+fn parameters(text: &[u8]) -> Option<(usize, &[u8])>
+    ensures { option_map (λ found. (found.0, found.1.now)) result ≡ option_map counted (types_in false text.now) }
 {
     let mut in_array = false;
+    let mut count = 0;
     for (at, letter) in text.iter().enumerate() {
         if in_array {
             if *letter != b'I' {
                 return None;
             }
             in_array = false;
+            count += 1;
         } else if *letter == b')' {
-            return Some(&text[at + 1..]);
+            return Some((count, &text[at + 1..]));
         } else if *letter == b'[' {
             in_array = true;
         } else {
             kind_of(*letter)?;
+            count += 1;
         }
     }
     None
+}
+
+/// Whether these bytes name a result: void, or a type that the machine knows.
+fn is_known_result(text: &[u8]) -> bool
+    ensures { result ≡ is_some (result_of text.now) }
+{
+    match text {
+        [b'V'] => true,
+        _ => field_type(text).is_some(),
+    }
+}
+
+/// How many parameters a method descriptor (section 4.3.3) names, where each of them and the result are of
+/// a `FieldType`, or the result is void.
+pub fn known_parameters(desc: &[u8]) -> Option<usize>
+    ensures { result ≡ option_map (λ signature. length signature.parameters) (signature_of desc.now) }
+{
+    let [b'(', text @ ..] = desc else {
+        return None;
+    };
+    let (count, rest) = parameters(text)?;
+    if !is_known_result(rest) {
+        return None;
+    }
+    Some(count)
 }
 
 /// Whether a method descriptor (section 4.3.3) names types that the machine knows alone: each parameter
@@ -65,13 +101,68 @@ fn behind_parameters(text: &[u8]) -> Option<&[u8]>
 pub fn is_known_signature(desc: &[u8]) -> bool
     ensures { result ≡ is_some (signature_of desc.now) }
 {
-    let [b'(', text @ ..] = desc else {
-        return false;
-    };
-    match behind_parameters(text) {
-        Some([b'V']) => true,
-        Some(rest) => field_type(rest).is_some(),
-        None => false,
+    known_parameters(desc).is_some()
+}
+
+/// The kinds of at most eight parameters, each an int, up to the parenthesis that closes them, and what
+/// stands behind it.
+#[tactic(auto, using(crate::proofs::EntryParts::no_int))]
+fn int_parameters(text: &[u8]) -> Option<(Kinds, &[u8])>
+    ensures { option_map (λ found. (found.0, found.1.now)) result ≡ few (ints_in (types_in false text.now)) }
+{
+    let mut kinds = Kinds::new();
+    for (at, letter) in text.iter().enumerate() {
+        if *letter == b')' {
+            return Some((kinds, &text[at + 1..]));
+        }
+        let Some(kind) = kind_of(*letter) else {
+            return None;
+        };
+        if !kinds.push(kind) {
+            return None;
+        }
+    }
+    None
+}
+
+/// The kind of a result, `None` for void, where it is an int or void.
+fn int_result(text: &[u8]) -> Option<Option<Kind>>
+    ensures { result ≡ option_and_then result_kind (result_of text.now) }
+{
+    match text {
+        [b'V'] => Some(None),
+        [letter] => Some(Some(kind_of(*letter)?)),
+        _ => None,
+    }
+}
+
+/// These kinds, with that of the result that stands behind them.
+fn with_result(kinds: Kinds, text: &[u8]) -> Option<EntryPart>
+    ensures { result ≡ option_map (part kinds) (option_and_then result_kind (result_of text.now)) }
+{
+    let result = int_result(text)?;
+    Some(EntryPart { kinds, result })
+}
+
+/// The kinds of at most eight parameters, each an int, and that of the result behind them.
+fn part_behind(text: &[u8]) -> Option<EntryPart>
+    ensures { result ≡ option_and_then (λ found. option_map (part found.0) (option_and_then result_kind (result_of found.1))) (few (ints_in (types_in false text.now))) }
+{
+    match int_parameters(text) {
+        Some((kinds, rest)) => with_result(kinds, rest),
+        None => None,
+    }
+}
+
+/// What an entry with this descriptor takes and returns: `None` where it has more than eight parameters,
+/// one of another type than an int, or a result that is neither an int nor void.
+#[tactic(auto, using(crate::proofs::EntryParts::opened))]
+pub fn entry_part(desc: &[u8]) -> Option<EntryPart>
+    ensures { result ≡ entry_part_of desc.now }
+{
+    match desc {
+        [b'(', text @ ..] => part_behind(text),
+        _ => None,
     }
 }
 

@@ -15,7 +15,10 @@ mod name;
 mod operator;
 mod thrown;
 
-pub use descriptor::{FieldType, descriptors_spell_types, field_type, is_known_signature};
+pub use descriptor::{
+    EntryPart, FieldType, descriptors_spell_types, entry_part, field_type, is_known_signature,
+    known_parameters,
+};
 pub use end::{Ended, PathEnd};
 pub use input::{Input, input_less};
 pub use item::Item;
