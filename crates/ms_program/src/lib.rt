@@ -1,0 +1,9 @@
+//! Programs of classes (JVMS SE 8, chapter 4): what their files say, and what one step of a run may read
+//! of them.
+#![tactic(auto)]
+
+mod body;
+mod file;
+
+pub use body::{Bodies, Body};
+pub use file::{File, read_file};
