@@ -19,3 +19,4 @@ mod Numbering
 mod Keys
 mod Members
 mod Lying
+pub mod Distinct

@@ -2,12 +2,12 @@
 use Rattle.std.proofs.Common.{◌≡◌, ℕ, zero, suc, ◌+◌, ◌*◌, ◌^◌, ◌<◌, ◌≤◌, List, [], ◌∷◌, ◌++◌, length, take, get_or, Bool, true, false, Option, Some, None, Result, Ok, Err, ℤ, refl, sym, ap, subst, ◌∙◌, arith, All}
 use Rattle.std.specs.Prelude.{map, not, ◌&&◌, ◌||◌, ◌==◌, nat_lt, is_none, IfOk, IfSome}
 use Rattle.std.proofs.lemmas.Bool.{ltb-true}
-use Rattle.std.proofs.lemmas.List.{get_or_default, length-append, length-take}
+use Rattle.std.proofs.lemmas.List.{length-append, length-take}
 use Rattle.std.proofs.lemmas.List.Elements.{All-append}
 use Rattle.ms_pool.specs.declared.code.ClassKind.TheVariants as kinds
 use Rattle.ms_pool.specs.declared.code.RawHandler.{RawHandler}
 use Rattle.ms_pool.specs.Places.{Place, beginning, behind, first_of}
-use Rattle.ms_pool.specs.Numbers.{IsBytes, IsBytes-take}
+use Rattle.ms_pool.specs.Numbers.{IsBytes, IsBytes-take, all_from_bytes}
 use Rattle.ms_pool.specs.Pools.{Placed, has_tag, spelled_pool}
 use Rattle.ms_pool.specs.ByNumber.{class_name, integer, utf8}
 use Rattle.ms_pool.specs.Formats.{Format, number, run, here, found, check, end, either, added, repeated, within}
@@ -145,7 +145,7 @@ number_moves short n place x found =
     let p = enough_ok short n place _ x found in
     ap (λ (y : ℕ × Place). y.1.at) (sym p.1)
 
-check_stays : (test : Bool) (fault : ClassFault) (place : Place) (x : Unit {0} × Place) → (check test fault).read place ≡ Ok x → (test ≡ true) × (x.1 ≡ place)
+pub check_stays : (test : Bool) (fault : ClassFault) (place : Place) (x : Unit {0} × Place) → (check test fault).read place ≡ Ok x → (test ≡ true) × (x.1 ≡ place)
 check_stays true fault place x found = (refl, ap (λ (y : Unit {0} × Place). y.1) (sym (ok_is {Fault = ClassFault} (tt, place) x found)))
 check_stays false fault place x found = absurd (let e = found in cc)
 
@@ -175,9 +175,6 @@ both_true : (a b : Bool) → (a && b) ≡ true → (a ≡ true) × (b ≡ true)
 both_true true b is = (refl, is)
 both_true false b is = absurd (let e = is in cc)
 
-all_bytes : (bytes : List ℕ) → IsBytes bytes → All (λ byte. byte < 256) bytes
-all_bytes bytes is i d within = subst (λ (n : ℕ). n < 256) (get_or_default bytes i 0 d within) (is i)
-
 code_lies : (slots : List (Option Placed)) (at size : ℕ) (place : Place) (x : Code × Place) → InFile size place → (code slots at).read place ≡ Ok x → LiesWithin size x.0
 unfolding code
 code_lies slots at size place x in_file found =
@@ -202,7 +199,7 @@ code_lies slots at size place x in_file found =
     (record {
       some = omega (arith, length_is, ltb-true _ _ bounds.0);
       short = omega (arith, length_is, ltb-true _ _ bounds.1);
-      bytes = all_bytes bytes.0 (subst IsBytes same (IsBytes-take many.0 sized.1.left before_code.bytes));
+      bytes = all_from_bytes bytes.0 (subst IsBytes same (IsBytes-take many.0 sized.1.left before_code.bytes));
       code_ends = omega (arith, length_is, taken.0, before_code.ends);
       table_ends = omega (arith, table_moves count.0 too_short slots [] count.1 table is_table, behind_table.ends);
     })))))))))

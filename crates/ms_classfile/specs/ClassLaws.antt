@@ -1,6 +1,6 @@
 -- What is said of each class file.
-use Rattle.std.specs.Prelude.{ℕ, ◌+◌, ◌*◌, ◌^◌, ◌<◌, ◌≤◌, length, IfSome, All}
-use Rattle.ms_classfile.specs.ClassFile.{Code, Method}
+use Rattle.std.specs.Prelude.{◌≡◌, ℕ, ◌+◌, ◌*◌, ◌^◌, ◌<◌, ◌≤◌, List, [], ◌∷◌, ◌++◌, length, false, IfSome, All}
+use Rattle.ms_classfile.specs.ClassFile.{Code, Method, is_there}
 
 -- Of a code in a file of so many bytes: it has from 1 to 65,535 bytes, and it and its exception table, of which each entry has
 -- eight bytes, end within the file.
@@ -14,3 +14,12 @@ pub record LiesWithin (size : ℕ) (code : Code) : Type 0 where
 -- so it is of each method's code
 abbrev pub HasCodeWithin : ℕ → Method → Type 0
 HasCodeWithin size method = IfSome method.code (LiesWithin size)
+
+-- each of these names with their descriptors is none of the earlier ones, which are these and those of them before it
+abbrev pub AreNew : (earlier keys : List (List ℕ × List ℕ)) → Type 0
+AreNew earlier [] = Unit {0}
+AreNew earlier (key ∷ keys) = (is_there key.0 key.1 earlier ≡ false) × AreNew (earlier ++ key ∷ []) keys
+
+-- they are all different
+abbrev pub AreDistinct : List (List ℕ × List ℕ) → Type 0
+AreDistinct keys = AreNew [] keys

@@ -1,9 +1,9 @@
 //! How a class file is read, part by part.
 
-ghost use Rattle.std.specs.Prelude.{◌≡◌, ◌⊎◌, ◌<◌, All, IfErr, IfOk, List, length, ℕ};
+ghost use Rattle.std.specs.Prelude.{◌≡◌, ◌⊎◌, ◌↔◌, ◌<◌, All, Err, IfErr, IfOk, List, Ok, length, map, ℕ};
 ghost use Rattle.ms_classfile.specs.ClassFile as files;
-ghost use Rattle.ms_classfile.specs.ClassFile.{IsClassFile, IsFirstFaultOf, class_file, counted, header, interface, is_object, pool, pool_fault, short, class_and_super};
-ghost use Rattle.ms_classfile.specs.ClassLaws.{HasCodeWithin};
+ghost use Rattle.ms_classfile.specs.ClassFile.{IsClassFile, IsFirstFaultOf, class_file, counted, field_key, header, interface, is_object, method_key, pool, pool_fault, short, class_and_super};
+ghost use Rattle.ms_classfile.specs.ClassLaws.{AreDistinct, HasCodeWithin};
 ghost use Rattle.ms_classfile.specs.ClassFinds.{Finds, Gives, Leads};
 ghost use Rattle.ms_classfile.specs.ClassViews.{class_view};
 ghost use Rattle.ms_classfile.specs.declared.fault.ClassFault as faults;
@@ -12,7 +12,7 @@ ghost use Rattle.ms_pool.specs.ByNumber.{class_name};
 ghost use Rattle.ms_pool.specs.declared.code.ClassKind.TheVariants as kinds;
 ghost use Rattle.ms_pool.specs.Formats.{end, repeated};
 ghost use Rattle.ms_pool.specs.Numbers.{IsBytes};
-ghost use Rattle.ms_pool.specs.Places.{beginning};
+ghost use Rattle.ms_pool.specs.Places.{Place, beginning};
 
 mod attributes;
 mod code;
@@ -216,4 +216,18 @@ pub fn class_files_are_whole_or_have_a_fault()
 pub fn codes_lie_in_their_file()
     // The code of each method has from 1 to 65,535 bytes, and ends within the file, as its exception table does.
     ensures { (bytes : List ℕ) (class : files.Class) → All (λ byte. byte < 256) bytes → IsClassFile bytes class → All (HasCodeWithin (length bytes)) class.methods }
+{}
+
+/// The law of members, of bytes below 256: no two fields of a class have the same name and descriptor, and
+/// no two methods. It does nothing.
+pub fn members_are_distinct()
+    ensures fields { (bytes : List ℕ) (class : files.Class) → All (λ byte. byte < 256) bytes → IsClassFile bytes class → AreDistinct (map field_key class.fields) }
+    ensures methods { (bytes : List ℕ) (class : files.Class) → All (λ byte. byte < 256) bytes → IsClassFile bytes class → AreDistinct (map method_key class.methods) }
+{}
+
+/// The law of reading, of bytes below 256: what the grammar of class files reads of them is what they are.
+/// It does nothing.
+pub fn class_files_are_read()
+    ensures class { (bytes : List ℕ) (class : files.Class) → All (λ byte. byte < 256) bytes → IsClassFile bytes class ↔ ((after : Place) × (class_file.read (beginning bytes) ≡ Ok (class, after))) }
+    ensures fault { (bytes : List ℕ) (fault : faults.ClassFault) → All (λ byte. byte < 256) bytes → IsFirstFaultOf bytes fault ↔ (class_file.read (beginning bytes) ≡ Err fault) }
 {}

@@ -24,4 +24,4 @@ pub use coded::{CodeFault, Coded};
 pub use decoded::{Decoded, Handler};
 pub use decoding::decode;
 pub use instruction::{Case, Instr, Operand, Switch};
-pub use laws::{codes_are_decoded_foreign_or_at_fault, decoded_codes_are_whole};
+pub use laws::{codes_are_decoded_foreign_or_at_fault, codes_are_read, decoded_codes_are_whole};

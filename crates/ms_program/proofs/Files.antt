@@ -1,5 +1,5 @@
 -- The bodies of the methods of a file, one after another.
-use Rattle.std.proofs.Common.{◌≡◌, ◌⊎◌, ℕ, ◌+◌, ◌<◌, ◌≤◌, All, List, [], ◌∷◌, ◌++◌, length, map, drop, get_or, Option, Some, None, inl, inr, refl, sym, subst, append_assoc, append-nil, drop_of_length-le}
+use Rattle.std.proofs.Common.{ℕ, ◌+◌, ◌<◌, ◌≤◌, All, List, [], ◌∷◌, ◌++◌, length, map, drop, get_or, Option, inl, inr, sym, subst, append_assoc, append-nil, drop_of_length-le}
 use Rattle.std.proofs.lemmas.List.{drop_more, get_or-map, length-map}
 use Rattle.ms_pool.specs.declared.code.ClassKind.{ClassKind}
 use Rattle.ms_pool.specs.Pools.{Placed}
@@ -47,10 +47,10 @@ module _ (pool : List (Option Placed)) (rows : List MethodRow) (at : ℕ) (row :
 -- they are all
 pub all_there : (pool : List (Option Placed)) (rows : List MethodRow) (at : ℕ) (bodies : List (Option Body)) → length rows ≤ at → AreUpTo pool rows at bodies → AreBodies pool (map method_view rows) bodies
 all_there pool rows at bodies past first =
-  let left : AreFirst pool (map method_view rows) [] bodies = subst (λ (left : List MethodRow). AreFirst pool (map method_view rows) (map method_view left) bodies) (drop_of_length-le rows past) first in
-  subst (λ (l : List (Option Body)). AreBodies pool (map method_view rows) l) (append-nil bodies) (left.all [] tt)
+    let left : AreFirst pool (map method_view rows) [] bodies = subst (λ (left : List MethodRow). AreFirst pool (map method_view rows) (map method_view left) bodies) (drop_of_length-le rows past) first in
+    subst (λ (l : List (Option Body)). AreBodies pool (map method_view rows) l) (append-nil bodies) (left.all [] tt)
 
 -- what holds of all methods holds of that of a row
 pub of_row : (P : Method → Type 0) (rows : List MethodRow) (at : ℕ) (row : MethodRow) → All P (map method_view rows) → at < length rows → P (method_view (get_or rows at row))
 of_row P rows at row all within =
-  subst P (get_or-map method_view rows at row (method_view row) within) (all at (method_view row) (subst (λ (n : ℕ). at < n) (sym (length-map rows method_view)) within))
+    subst P (get_or-map method_view rows at row (method_view row) within) (all at (method_view row) (subst (λ (n : ℕ). at < n) (sym (length-map rows method_view)) within))

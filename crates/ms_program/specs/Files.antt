@@ -1,5 +1,5 @@
 -- What a class file says of its methods' codes: which methods are foreign, and the first fault of the whole file.
-use Rattle.std.specs.Prelude.{◌≡◌, ◌⊎◌, ℕ, List, [], ◌∷◌, length, Bool, true, false, ◌&&◌, ◌==◌, nat_le, if◌then◌else◌, Option, Some, None, option_map, option_and_then, bit_and}
+use Rattle.std.specs.Prelude.{◌≡◌, ◌⊎◌, ℕ, List, [], ◌∷◌, length, Bool, ◌&&◌, ◌==◌, nat_le, if◌then◌else◌, Option, Some, None, option_map, option_and_then, bit_and}
 use Rattle.ms_words.specs.Descriptors.{signature_of}
 use Rattle.ms_pool.specs.declared.code.ClassKind.{ClassKind}
 use Rattle.ms_pool.specs.Pools.{Placed}

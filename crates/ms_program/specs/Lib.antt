@@ -1,2 +1,3 @@
 pub mod Files
 pub mod FileViews
+pub mod Reading

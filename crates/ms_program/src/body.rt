@@ -81,7 +81,11 @@ fn coded(alloc: Global, row: &CodeRow<'_>, pool: &Pool<'_>) -> Result<Coded, Cla
 }
 
 /// What a method does, in a class file with this pool.
-fn body_of(alloc: Global, pool: &Pool<'_>, method: &MethodRow<'_>) -> Result<Option<Body>, ClassFault>
+fn body_of(
+    alloc: Global,
+    pool: &Pool<'_>,
+    method: &MethodRow<'_>,
+) -> Result<Option<Body>, ClassFault>
     requires { HasCodeWithin (2 ^ 63) (method_view method.now) }
     ensures body { IfOk result (IsBody pool.now (method_view method.now)) }
     ensures fault { IfErr result (IsMethodFault pool.now (method_view method.now)) }
@@ -101,7 +105,11 @@ fn body_of(alloc: Global, pool: &Pool<'_>, method: &MethodRow<'_>) -> Result<Opt
 
 /// What each of these methods does, or the fault of the first whose code has one.
 #[tactic(auto, using(crate::proofs::Files::none_first, crate::proofs::Files::one_more, crate::proofs::Files::next_at_fault, crate::proofs::Files::all_there, crate::proofs::Files::of_row))]
-pub(crate) fn bodies_of(alloc: Global, pool: &Pool<'_>, methods: &[MethodRow<'_>]) -> Result<Bodies, ClassFault>
+pub(crate) fn bodies_of(
+    alloc: Global,
+    pool: &Pool<'_>,
+    methods: &[MethodRow<'_>],
+) -> Result<Bodies, ClassFault>
     requires { All (HasCodeWithin (2 ^ 63)) (map method_view methods.now) }
     ensures bodies { IfOk result (AreBodies pool.now (map method_view methods.now)) }
     ensures fault { IfErr result (AreAtFault pool.now (map method_view methods.now)) }

@@ -1,9 +1,13 @@
 ghost use Rattle.std.specs.Prelude.{◌≡◌, IfErr, IfOk};
 ghost use Rattle.ms_program.specs.FileViews.{file_view};
 ghost use Rattle.ms_program.specs.Files.{IsFaultOf, IsFile};
+ghost use Rattle.ms_program.specs.Reading.{first_fault};
 
 use crate::body::{Bodies, bodies_of};
+use crate::laws::files_are_read;
 use ms_classfile::{Class, ClassFault, read_class};
+use ms_pool::ClassKind;
+use ms_words::NoMemory;
 use std::alloc::Global;
 
 /// A class file with what its methods do, lent from the bytes of the file.
@@ -34,4 +38,25 @@ pub fn read_file<'a>(alloc: Global, bytes: &'a [u8]) -> Result<File<'a>, ClassFa
     let class = read_class(alloc, bytes)?;
     let bodies = bodies_of(alloc, &class.pool, class.methods.rows())?;
     Ok(File { class, bodies })
+}
+
+/// The first fault of a file.
+#[derive(Clone, Copy, PartialEq, Eq)]
+pub struct FileFault {
+    /// Its kind.
+    pub kind: ClassKind,
+    /// Its place: how many bytes of the file come before it.
+    pub at: u64,
+}
+
+/// The first fault of a file, where it has one, as `read_file` says which that is.
+pub fn first_fault(alloc: Global, bytes: &[u8]) -> Result<Option<FileFault>, NoMemory>
+    ensures { IfOk result (λ fault. fault ≡ first_fault bytes.now) }
+{
+    files_are_read();
+    match read_file(alloc, bytes) {
+        Ok(_file) => Ok(None),
+        Err(ClassFault::At { kind, at }) => Ok(Some(FileFault { kind, at })),
+        Err(ClassFault::NoMemory) => Err(NoMemory),
+    }
 }

@@ -4,6 +4,8 @@
 
 mod body;
 mod file;
+mod laws;
 
 pub use body::{Bodies, Body};
-pub use file::{File, read_file};
+pub use file::{File, FileFault, first_fault, read_file};
+pub use laws::files_are_read;

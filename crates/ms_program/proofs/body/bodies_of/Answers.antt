@@ -7,4 +7,4 @@ use Rattle.ms_program.proofs.body.bodies_of.Goals as goal
 
 pub body_of-requires : goal.body_of-requires
 body_of-requires c =
-  subst (λ (row : MethodRow). HasCodeWithin (2 ^ 63) (method_view row)) (sym c.method-item.is) (of_row (HasCodeWithin (2 ^ 63)) c.args.methods.now c.loop-method.method-index c.method-item.result c.requires c.loop-method-test.true)
+    subst (λ (row : MethodRow). HasCodeWithin (2 ^ 63) (method_view row)) (sym c.method-item.is) (of_row (HasCodeWithin (2 ^ 63)) c.args.methods.now c.loop-method.method-index c.method-item.result c.requires c.loop-method-test.true)
