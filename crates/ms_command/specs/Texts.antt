@@ -6,7 +6,7 @@ use Rattle.ms_words.specs.declared.end.Ended.TheVariants.{Returned}
 use Rattle.ms_words.specs.declared.end.PathEnd.{PathEnd}
 use Rattle.ms_words.specs.declared.end.PathEnd.TheVariants.{Ended, Cut}
 use Rattle.ms_command.specs.declared.reply.Reply.{Reply}
-use Rattle.ms_command.specs.declared.reply.Reply.TheVariants.{Ran, ClassAdded, EntrySet, DepthSet, Explored, Reported, Unfinished, Quitting, NoLine, NoCommand, Absent, Known, Unknown, NoEntry, EntryMissing, Range, NotBuilt}
+use Rattle.ms_command.specs.declared.reply.Reply.TheVariants.{Ran, ClassAdded, EntrySet, DepthSet, Explored, Reported, Unfinished, Quitting, NoLine, NoCommand, Absent, TooLong, ClassFault, Known, Unknown, NoEntry, EntryMissing, Range, NotBuilt}
 
 -- the hexadecimal digit of a number below 16, the letters small
 abbrev pub hex_digit : ℕ → ℕ
@@ -47,6 +47,8 @@ reply_text Quitting = codes "ok quit" ++ line_end
 reply_text NoLine = codes "refused 1 Line" ++ line_end
 reply_text NoCommand = codes "refused 2 Command" ++ line_end
 reply_text (Absent file) = codes "refused 3 Absent " ++ printed_name file ++ line_end
+reply_text (TooLong file) = codes "refused 4 TooLong " ++ printed_name file ++ line_end
+reply_text (ClassFault kind at) = codes "refused 5 Class " ++ kind ++ codes " " ++ decimal at ++ line_end
 reply_text (Known class) = codes "refused 7 Known " ++ printed_name class ++ line_end
 reply_text (Unknown class) = codes "refused 8 Unknown " ++ printed_name class ++ line_end
 reply_text NoEntry = codes "refused 10 NoEntry" ++ line_end

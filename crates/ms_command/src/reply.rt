@@ -55,6 +55,16 @@ pub enum Reply {
     Absent {
         file: Name,
     },
+    /// `refused 4 TooLong FILE`: the file of this name has more than 1,048,576 bytes.
+    TooLong {
+        file: Name,
+    },
+    /// `refused 5 Class KIND AT`: the class file has a fault. This is the first one: its kind, which is
+    /// printed as it is, and its place, which is how many bytes of the file come before it.
+    ClassFault {
+        kind: Name,
+        at: u64,
+    },
     /// `refused 7 Known CLASS`: the program has a class of this name.
     Known {
         class: Name,
@@ -70,8 +80,8 @@ pub enum Reply {
     EntryMissing,
     /// `refused 13 Range`: a form of a command fits the line, and a number is outside its range.
     Range,
-    /// `refused 90 NotBuilt`: the file, the method or the words are beyond what is built so far, or a
-    /// class of another name is present.
+    /// `refused 90 NotBuilt`: the file, which has no fault, the method or the words are beyond what is built
+    /// so far, or a class of another name is present.
     NotBuilt,
 }
 
@@ -110,6 +120,8 @@ pub fn write_reply(alloc: Global, reply: &Reply) -> Result<Vec<u8>, NoMemory>
         Reply::NoLine => line(alloc, b"refused 1 Line", b""),
         Reply::NoCommand => line(alloc, b"refused 2 Command", b""),
         Reply::Absent { file } => named(alloc, b"refused 3 Absent ", file.bytes()),
+        Reply::TooLong { file } => named(alloc, b"refused 4 TooLong ", file.bytes()),
+        Reply::ClassFault { kind, at } => class_fault(alloc, kind.bytes(), *at),
         Reply::Known { class } => named(alloc, b"refused 7 Known ", class.bytes()),
         Reply::Unknown { class } => named(alloc, b"refused 8 Unknown ", class.bytes()),
         Reply::NoEntry => line(alloc, b"refused 10 NoEntry", b""),
@@ -131,9 +143,19 @@ fn class_added(
     let name = printed(alloc, class)?;
     text.extend_from_slice(name.as_slice())?;
     text.extend_from_slice(b" verdicts ")?;
-    push_number(alloc, &mut text, verdicts)?;
+    push_number(alloc, &mut text, u64::from(verdicts))?;
     text.extend_from_slice(b" segments ")?;
-    push_number(alloc, &mut text, segments)?;
+    push_number(alloc, &mut text, u64::from(segments))?;
+    with_line_end(text)
+}
+
+fn class_fault(alloc: Global, kind: &[u8], at: u64) -> Result<Vec<u8>, NoMemory>
+    ensures { IfOk result (λ text. text.items ≡ reply_text (Reply.ClassFault kind.now at)) }
+{
+    let mut text = Vec::from_slice(alloc, b"refused 5 Class ")?;
+    text.extend_from_slice(kind)?;
+    text.push(b' ')?;
+    push_number(alloc, &mut text, at)?;
     with_line_end(text)
 }
 
@@ -141,7 +163,7 @@ fn depth_set(alloc: Global, depth: u16) -> Result<Vec<u8>, NoMemory>
     ensures { IfOk result (λ text. text.items ≡ reply_text (Reply.DepthSet depth)) }
 {
     let mut text = Vec::from_slice(alloc, b"ok depth ")?;
-    push_number(alloc, &mut text, u32::from(depth))?;
+    push_number(alloc, &mut text, u64::from(depth))?;
     with_line_end(text)
 }
 
@@ -149,9 +171,9 @@ fn explored(alloc: Global, settled: u32, asks: u32, how: &[u8]) -> Result<Vec<u8
     ensures { IfOk result (λ text. text.items ≡ reply_text (Reply.Explored settled asks how.now)) }
 {
     let mut text = Vec::from_slice(alloc, b"ok explored ")?;
-    push_number(alloc, &mut text, settled)?;
+    push_number(alloc, &mut text, u64::from(settled))?;
     text.extend_from_slice(b" asks ")?;
-    push_number(alloc, &mut text, asks)?;
+    push_number(alloc, &mut text, u64::from(asks))?;
     text.push(b' ')?;
     text.extend_from_slice(how)?;
     with_line_end(text)
@@ -161,14 +183,14 @@ fn reported(alloc: Global, paths: u32, undecided: u32) -> Result<Vec<u8>, NoMemo
     ensures { IfOk result (λ text. text.items ≡ reply_text (Reply.Reported paths undecided)) }
 {
     let mut text = Vec::from_slice(alloc, b"ok report paths ")?;
-    push_number(alloc, &mut text, paths)?;
+    push_number(alloc, &mut text, u64::from(paths))?;
     text.extend_from_slice(b" undecided ")?;
-    push_number(alloc, &mut text, undecided)?;
+    push_number(alloc, &mut text, u64::from(undecided))?;
     with_line_end(text)
 }
 
 /// Adds a number in decimal.
-fn push_number(alloc: Global, text: &mut Vec<u8>, number: u32) -> Result<(), NoMemory>
+fn push_number(alloc: Global, text: &mut Vec<u8>, number: u64) -> Result<(), NoMemory>
     ensures { OnOk result (text.new.items ≡ text.old.items ++ decimal number) }
 {
     let digits = format!(in alloc; "{number}")?;

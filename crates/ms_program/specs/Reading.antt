@@ -46,5 +46,5 @@ fault_in (Err (faults.At kind at)) = Some (record { kind = kind; at = at })
 fault_in (Err faults.NoMemory) = None
 
 -- the first fault of these bytes, if they have one
-abbrev pub first_fault : List ℕ → Option FileFault
+unfoldable pub first_fault : List ℕ → Option FileFault
 first_fault bytes = fault_in (file_read bytes)

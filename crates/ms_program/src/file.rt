@@ -50,6 +50,7 @@ pub struct FileFault {
 }
 
 /// The first fault of a file, where it has one, as `read_file` says which that is.
+#[tactic(auto, unfolding(crate::specs::Reading::first_fault))]
 pub fn first_fault(alloc: Global, bytes: &[u8]) -> Result<Option<FileFault>, NoMemory>
     ensures { IfOk result (λ fault. fault ≡ first_fault bytes.now) }
 {

@@ -6,7 +6,7 @@ use Rattle.std.proofs.lemmas.List.{length-append, take-append-le}
 use Rattle.std.proofs.Math.Seq.{take-append-add}
 use Rattle.ms_outside.specs.Sinks.{TakesPart}
 use Rattle.ms_command.specs.declared.reply.Reply.{Reply}
-use Rattle.ms_command.specs.declared.reply.Reply.TheVariants.{Ran, ClassAdded, EntrySet, DepthSet, Explored, Reported, Unfinished, Quitting, NoLine, NoCommand, Absent, Known, Unknown, NoEntry, EntryMissing, Range, NotBuilt}
+use Rattle.ms_command.specs.declared.reply.Reply.TheVariants.{Ran, ClassAdded, EntrySet, DepthSet, Explored, Reported, Unfinished, Quitting, NoLine, NoCommand, Absent, TooLong, ClassFault, Known, Unknown, NoEntry, EntryMissing, Range, NotBuilt}
 use Rattle.ms_command.specs.Texts.{reply_text}
 use Rattle.ms_session.specs.declared.stop.Stop.{Stop}
 use Rattle.ms_session.specs.declared.stop.Stop.TheVariants as stops
@@ -53,6 +53,8 @@ reply_has_text Quitting = omega arith
 reply_has_text NoLine = omega arith
 reply_has_text NoCommand = omega arith
 reply_has_text (Absent file) = omega arith
+reply_has_text (TooLong file) = omega arith
+reply_has_text (ClassFault kind at) = omega arith
 reply_has_text (Known class) = omega arith
 reply_has_text (Unknown class) = omega arith
 reply_has_text NoEntry = omega arith

@@ -17,6 +17,10 @@ use Rattle.ms_report.specs.Rows.{rows_text}
 use Rattle.ms_report.specs.Stops.{totals_of}
 use Rattle.ms_classfile.specs.ThinFile.{Method}
 use Rattle.ms_classfile.specs.Reading.{thin_method}
+use Rattle.ms_pool.specs.declared.code.ClassKind.{ClassKind}
+use Rattle.ms_pool.specs.declared.code.ClassKind.TheVariants as kinds
+use Rattle.ms_program.specs.declared.file.FileFault.{FileFault}
+use Rattle.ms_program.specs.Reading.{first_fault}
 use Rattle.ms_machine.specs.Control.{Program}
 use Rattle.ms_machine.specs.Runs.{end_of}
 use Rattle.ms_jvm.specs.Ends.{path_end_of}
@@ -34,6 +38,25 @@ pub record Next : Type 0 where
 -- a reply, with the state then
 abbrev pub replied : State → Reply → Next
 replied state reply = record { text = reply_text reply; state = state; asks = 0 }
+
+-- the name of a kind of fault
+abbrev pub kind_name : ClassKind → List ℕ
+kind_name kinds.Short = codes "Short"
+kind_name kinds.Magic = codes "Magic"
+kind_name kinds.Version = codes "Version"
+kind_name kinds.Pool = codes "Pool"
+kind_name kinds.Index = codes "Index"
+kind_name kinds.Shape = codes "Shape"
+kind_name kinds.Super = codes "Super"
+kind_name kinds.Duplicate = codes "Duplicate"
+kind_name kinds.Trailing = codes "Trailing"
+kind_name kinds.Cut = codes "Cut"
+kind_name kinds.Target = codes "Target"
+kind_name kinds.Switch = codes "Switch"
+
+-- the reply to a file that has this first fault
+abbrev pub fault_reply : FileFault → Reply
+fault_reply fault = replies.ClassFault (kind_name fault.kind) fault.at
 
 -- ---- once FILE NAME DESC WORD..
 
@@ -60,13 +83,19 @@ abbrev pub method_reply : Option Method → List ℕ → List ℕ → List ℤ �
 method_reply None name desc words = replies.NotBuilt
 method_reply (Some method) name desc words = if is_called_so method name desc words then run_reply (once_end method words) else replies.NotBuilt
 
+-- the reply to a file with this first fault, or, where it has none, that of its method
+abbrev pub file_reply : Option FileFault → Reply → Reply
+file_reply (Some fault) reply = fault_reply fault
+file_reply None reply = reply
+
 -- The reply to `once FILE NAME DESC WORD..`, by the shelf's answer to FILE. It is refused with 3 where
--- the file is absent. It is refused with 90 where the file is too long or isn't thin, where its method
--- has another name or another descriptor, and where the words aren't one of its kind for each parameter.
+-- the file is absent, with 4 where it is too long, and with 5 where it has a fault: of its class, or of a code
+-- that is decoded. It is refused with 90 where it has none and isn't thin, where its method has another name or
+-- another descriptor, and where the words aren't one of its kind for each parameter.
 abbrev pub once_reply : List ℕ → List ℕ → List ℕ → List ℤ → Answer → Reply
 once_reply file name desc words shelves.Absent = replies.Absent file
-once_reply file name desc words shelves.TooLong = replies.NotBuilt
-once_reply file name desc words (shelves.Found bytes) = method_reply (thin_method bytes) name desc words
+once_reply file name desc words shelves.TooLong = replies.TooLong file
+once_reply file name desc words (shelves.Found bytes) = file_reply (first_fault bytes) (method_reply (thin_method bytes) name desc words)
 
 -- ---- class FILE
 
@@ -81,11 +110,16 @@ abbrev pub class_read : State → Option Method → Next
 class_read state None = replied state replies.NotBuilt
 class_read state (Some class) = class_among state class state.classes
 
+-- the same, where a file has no fault
+abbrev pub file_next : State → Option FileFault → Option Method → Next
+file_next state (Some fault) class = replied state (fault_reply fault)
+file_next state None class = class_read state class
+
 -- `class FILE`, by the shelf's answer to FILE
 abbrev pub class_next : State → List ℕ → Answer → Next
 class_next state file shelves.Absent = replied state (replies.Absent file)
-class_next state file shelves.TooLong = replied state replies.NotBuilt
-class_next state file (shelves.Found bytes) = class_read state (thin_method bytes)
+class_next state file shelves.TooLong = replied state (replies.TooLong file)
+class_next state file (shelves.Found bytes) = file_next state (first_fault bytes) (thin_method bytes)
 
 -- ---- entry CLASS NAME DESC
 

@@ -4,6 +4,7 @@
 mod calling;
 mod entry;
 mod exploring;
+mod fault;
 mod fetching;
 mod known;
 mod laws;

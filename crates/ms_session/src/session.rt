@@ -13,9 +13,12 @@ ghost use Rattle.ms_session.specs.Paths.{first_of};
 ghost use Rattle.ms_session.specs.States as states;
 ghost use Rattle.ms_session.specs.States.{class_named, new_state};
 ghost use Rattle.ms_session.specs.Steps as steps;
+ghost use Rattle.ms_session.specs.Steps.{method_reply};
+ghost use Rattle.ms_program.specs.Reading.{first_fault};
 
 use crate::calling::call;
 use crate::entry::{explore_entry, report_entry};
+use crate::fault::fault_reply;
 use crate::fetching::{Fetched, ask};
 use crate::known::Known;
 use crate::output::{Output, write_output};
@@ -23,6 +26,7 @@ use crate::stop::Stop;
 use ms_classfile::{ThinMethod, read_thin};
 use ms_command::{Command, Reply, Words};
 use ms_outside::{Shelf, Sink};
+use ms_program::first_fault;
 use ms_words::{Kind, Kinds, Name, NoMemory};
 use std::alloc::{AllocError, Global};
 use std::marker::Model;
@@ -142,8 +146,21 @@ impl Session {
                 let file = Name::of(alloc, file.bytes())?;
                 Ok(Reply::Absent { file })
             }
-            Fetched::TooLong => Ok(Reply::NotBuilt),
-            Fetched::Bytes(bytes) => self.take_class(alloc, bytes),
+            Fetched::TooLong => {
+                let file = Name::of(alloc, file.bytes())?;
+                Ok(Reply::TooLong { file })
+            }
+            Fetched::Bytes(bytes) => self.take_file(alloc, bytes),
+        }
+    }
+
+    /// Adds the class of a file of these bytes, where it has no fault.
+    fn take_file(&mut self, alloc: Global, bytes: Vec<u8>) -> Result<Reply, NoMemory>
+        ensures { IfOk result (λ reply. Says (steps.file_next self.old (first_fault bytes.items) (thin_method bytes.items)) reply self.new) }
+    {
+        match first_fault(alloc, bytes.as_slice())? {
+            Some(fault) => fault_reply(alloc, fault),
+            None => self.take_class(alloc, bytes),
         }
     }
 
@@ -298,14 +315,27 @@ fn once(
             let file = Name::of(alloc, file.bytes())?;
             Ok(Reply::Absent { file })
         }
-        Fetched::TooLong => Ok(Reply::NotBuilt),
-        Fetched::Bytes(bytes) => call(
-            alloc,
-            bytes.as_slice(),
-            name.bytes(),
-            desc.bytes(),
-            words.get(),
-        ),
+        Fetched::TooLong => {
+            let file = Name::of(alloc, file.bytes())?;
+            Ok(Reply::TooLong { file })
+        }
+        Fetched::Bytes(bytes) => once_in(alloc, bytes.as_slice(), name, desc, words),
+    }
+}
+
+/// The reply to `once` on a file of these bytes.
+fn once_in(
+    alloc: Global,
+    bytes: &[u8],
+    name: &Name,
+    desc: &Name,
+    words: &Words,
+) -> Result<Reply, NoMemory>
+    ensures { IfOk result (λ reply. reply ≡ steps.file_reply (first_fault bytes.now) (method_reply (thin_method bytes.now) name.now desc.now words.now)) }
+{
+    match first_fault(alloc, bytes)? {
+        Some(fault) => fault_reply(alloc, fault),
+        None => call(alloc, bytes, name.bytes(), desc.bytes(), words.get()),
     }
 }
 
