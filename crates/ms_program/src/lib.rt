@@ -5,6 +5,7 @@
 mod body;
 mod file;
 mod laws;
+mod names;
 
 pub use body::{Bodies, Body};
 pub use file::{File, FileFault, first_fault, read_file};
