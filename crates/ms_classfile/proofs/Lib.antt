@@ -20,3 +20,4 @@ mod Keys
 mod Members
 mod Lying
 pub mod Distinct
+pub mod Held

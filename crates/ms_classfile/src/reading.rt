@@ -8,7 +8,7 @@ ghost use Rattle.ms_classfile.specs.ClassFinds.{Finds, Gives, Leads};
 ghost use Rattle.ms_classfile.specs.ClassViews.{class_view};
 ghost use Rattle.ms_classfile.specs.declared.fault.ClassFault as faults;
 ghost use Rattle.ms_classfile.specs.declared.fault.ClassFault.TheVariants.{At, NoMemory};
-ghost use Rattle.ms_pool.specs.ByNumber.{class_name};
+ghost use Rattle.ms_pool.specs.ByNumber.{class_name, entries_in, places_of};
 ghost use Rattle.ms_pool.specs.declared.code.ClassKind.TheVariants as kinds;
 ghost use Rattle.ms_pool.specs.Formats.{end, repeated};
 ghost use Rattle.ms_pool.specs.Numbers.{IsBytes};
@@ -26,7 +26,7 @@ use crate::{Class, ClassFault};
 use attributes::attributes;
 use fields::fields;
 use methods::methods;
-use ms_pool::{ClassKind, Cursor, Pool, PoolFault, read_pool};
+use ms_pool::{ClassKind, Cursor, Pool, PoolFault, pools_hold_what_they_name, read_pool};
 use ms_words::thrown_named;
 use names::{Named, class_name};
 use numbers::{Inside, u2, u4};
@@ -224,6 +224,14 @@ pub fn members_are_distinct()
     ensures fields { (bytes : List ℕ) (class : files.Class) → All (λ byte. byte < 256) bytes → IsClassFile bytes class → AreDistinct (map field_key class.fields) }
     ensures methods { (bytes : List ℕ) (class : files.Class) → All (λ byte. byte < 256) bytes → IsClassFile bytes class → AreDistinct (map method_key class.methods) }
 {}
+
+/// The law of constant pools in class files, of bytes below 256: the places of a class file's pool lead to
+/// its entries in the file. It does nothing.
+pub fn pools_lie_in_their_file()
+    ensures { (bytes : List ℕ) (class : files.Class) → All (λ byte. byte < 256) bytes → IsClassFile bytes class → entries_in bytes (places_of class.pool) ≡ class.pool }
+{
+    pools_hold_what_they_name();
+}
 
 /// The law of reading, of bytes below 256: what the grammar of class files reads of them is what they are.
 /// It does nothing.

@@ -1,2 +1,4 @@
 pub mod Files
 pub mod Reading
+pub mod Members
+pub mod Loading

@@ -2,3 +2,5 @@ pub mod Names
 pub mod Files
 pub mod FileViews
 pub mod Reading
+pub mod Programs
+pub mod Parts

@@ -5,6 +5,7 @@
 mod body;
 mod file;
 mod laws;
+mod loaded;
 mod names;
 
 pub use body::{Bodies, Body};

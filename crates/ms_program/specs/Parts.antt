@@ -1,0 +1,13 @@
+-- For private functions: the parts of a class that is being loaded.
+use Rattle.std.specs.Prelude.{ℕ, List}
+use Rattle.ms_pool.specs.ByNumber.{entries_in}
+use Rattle.ms_program.specs.declared.loaded.Parts.{Parts}
+use Rattle.ms_program.specs.Programs.{Class, IsClass, class_with}
+
+-- the class of these parts, with the file of these bytes
+abbrev pub class_in : List ℕ → Parts → Class
+class_in bytes parts = class_with bytes (entries_in bytes parts.pool) parts.members.name.items parts.members.fields parts.members.initials.items parts.members.methods parts.bodies
+
+-- these bytes are the file of the class of these parts
+abbrev pub AreParts : List ℕ → Parts → Type 0
+AreParts bytes parts = IsClass (class_in bytes parts)
