@@ -458,58 +458,124 @@ static CODES: [(&[u8], &str); 8] = [
     (b"\x15\x00\xac", "ok returns 1\n"),
 ];
 
-/// What is wrong in code of the same method that isn't thin.
-static NO_CODES: [(&str, &[u8]); 30] = [
-    ("back to the start", b"\x1a\x99\xff\xff\x03\xac\x04\xac"),
-    ("far back", b"\x1a\x99\x80\x00\x03\xac\x04\xac"),
-    ("to itself", b"\x1a\x99\x00\x00\x03\xac\x04\xac"),
-    ("into itself", b"\x1a\x99\x00\x02\x03\xac\x04\xac"),
-    ("behind the code", b"\x1a\x99\x00\x07\x03\xac\x04\xac"),
-    ("far behind the code", b"\x1a\x99\x7f\xff\x03\xac\x04\xac"),
-    ("to a stack of one", b"\x1a\x99\x00\x06\x03\xac\x04\xac"),
-    ("into a push", b"\x1a\x99\x00\x06\x03\xac\x10\x04\xac"),
-    ("into a load", b"\x1a\x99\x00\x06\x03\xac\x15\x00\xac"),
+/// What is wrong in code of the same method that isn't thin, and the reply. The code has the place 91.
+static NO_CODES: [(&str, &[u8], &str); 30] = [
+    (
+        "back to the start",
+        b"\x1a\x99\xff\xff\x03\xac\x04\xac",
+        NOT_BUILT,
+    ),
+    (
+        "far back",
+        b"\x1a\x99\x80\x00\x03\xac\x04\xac",
+        "refused 5 Class Target 92\n",
+    ),
+    ("to itself", b"\x1a\x99\x00\x00\x03\xac\x04\xac", NOT_BUILT),
+    (
+        "into itself",
+        b"\x1a\x99\x00\x02\x03\xac\x04\xac",
+        "refused 5 Class Target 92\n",
+    ),
+    (
+        "behind the code",
+        b"\x1a\x99\x00\x07\x03\xac\x04\xac",
+        "refused 5 Class Target 92\n",
+    ),
+    (
+        "far behind the code",
+        b"\x1a\x99\x7f\xff\x03\xac\x04\xac",
+        "refused 5 Class Target 92\n",
+    ),
+    (
+        "to a stack of one",
+        b"\x1a\x99\x00\x06\x03\xac\x04\xac",
+        NOT_BUILT,
+    ),
+    (
+        "into a push",
+        b"\x1a\x99\x00\x06\x03\xac\x10\x04\xac",
+        "refused 5 Class Target 92\n",
+    ),
+    (
+        "into a load",
+        b"\x1a\x99\x00\x06\x03\xac\x15\x00\xac",
+        "refused 5 Class Target 92\n",
+    ),
     (
         "into a branch",
         b"\x1a\x99\x00\x07\x03\xac\x1a\x99\x00\x03\x04\xac",
+        "refused 5 Class Target 92\n",
     ),
     (
         "back to another's target",
         b"\x1a\x99\x00\x05\x03\xac\x1a\x99\xff\xff\x04\xac",
+        NOT_BUILT,
     ),
     (
         "one of two words tested",
         b"\x1a\x1a\x99\x00\x04\xac\x04\xac",
+        NOT_BUILT,
     ),
     (
         "two of three words tested",
         b"\x1a\x1a\x1a\x9f\x00\x04\xac\x04\xac",
+        NOT_BUILT,
     ),
-    ("no word to test", b"\x99\x00\x05\x03\xac\x04\xac"),
+    (
+        "no word to test",
+        b"\x99\x00\x05\x03\xac\x04\xac",
+        NOT_BUILT,
+    ),
     (
         "one word to test for two",
         b"\x1a\x9f\x00\x05\x03\xac\x04\xac",
+        NOT_BUILT,
     ),
     // iload_0 four times, isub, isub, if_icmpeq 11, iconst_0, ireturn, 11: iconst_1, ireturn
     (
         "a stack of four",
         b"\x1a\x1a\x1a\x1a\x64\x64\x9f\x00\x05\x03\xac\x04\xac",
+        NOT_BUILT,
     ),
-    ("one of two words returned", b"\x1a\x1a\xac\xac"),
-    ("a load at the end", b"\x1a\xac\x1a"),
-    ("a push at the end", b"\x1a\x99\x00\x05\x03\xac\x04"),
-    ("a branch that is cut", b"\x1a\xac\x1a\x99\x00"),
-    ("a branch without an offset", b"\x1a\xac\x1a\x99"),
-    ("a load that is cut", b"\x1a\xac\x15"),
+    ("one of two words returned", b"\x1a\x1a\xac\xac", NOT_BUILT),
+    ("a load at the end", b"\x1a\xac\x1a", NOT_BUILT),
+    (
+        "a push at the end",
+        b"\x1a\x99\x00\x05\x03\xac\x04",
+        NOT_BUILT,
+    ),
+    (
+        "a branch that is cut",
+        b"\x1a\xac\x1a\x99\x00",
+        "refused 5 Class Cut 94\n",
+    ),
+    (
+        "a branch without an offset",
+        b"\x1a\xac\x1a\x99",
+        "refused 5 Class Cut 94\n",
+    ),
+    (
+        "a load that is cut",
+        b"\x1a\xac\x15",
+        "refused 5 Class Cut 93\n",
+    ),
     // Tests of two references, a jump, a test of a reference, a comparison of doubles.
-    ("opcode 165", b"\x1a\x1a\xa5\x00\x05\x03\xac\x04\xac"),
-    ("opcode 166", b"\x1a\x1a\xa6\x00\x05\x03\xac\x04\xac"),
-    ("opcode 167", b"\xa7\x00\x03\x1a\xac"),
-    ("opcode 198", b"\x1a\xc6\x00\x05\x03\xac\x04\xac"),
-    ("opcode 152", b"\x1a\x1a\x98\xac"),
-    ("a local that is no parameter", b"\x15\x01\xac"),
-    ("the last local", b"\x15\xff\xac"),
-    ("a local behind a return", b"\x1a\xac\x1b\xac"),
+    (
+        "opcode 165",
+        b"\x1a\x1a\xa5\x00\x05\x03\xac\x04\xac",
+        NOT_BUILT,
+    ),
+    (
+        "opcode 166",
+        b"\x1a\x1a\xa6\x00\x05\x03\xac\x04\xac",
+        NOT_BUILT,
+    ),
+    ("opcode 167", b"\xa7\x00\x03\x1a\xac", NOT_BUILT),
+    ("opcode 198", b"\x1a\xc6\x00\x05\x03\xac\x04\xac", NOT_BUILT),
+    ("opcode 152", b"\x1a\x1a\x98\xac", NOT_BUILT),
+    ("a local that is no parameter", b"\x15\x01\xac", NOT_BUILT),
+    ("the last local", b"\x15\xff\xac", NOT_BUILT),
+    ("a local behind a return", b"\x1a\xac\x1b\xac", NOT_BUILT),
 ];
 
 #[test]
@@ -525,15 +591,9 @@ fn branches_of_thin_code_lead_ahead(rt: HostRuntime) -> Result<(), Fail> {
             want,
         )?;
     }
-    for (what, code) in &NO_CODES {
+    for (what, code, want) in &NO_CODES {
         let file = thin(rt.alloc(), b"(I)I", 3, 256, code)?;
-        check(
-            &rt,
-            what,
-            file.as_slice(),
-            b"once T.class f (I)I 1",
-            NOT_BUILT,
-        )?;
+        check(&rt, what, file.as_slice(), b"once T.class f (I)I 1", want)?;
     }
     Ok(())
 }

@@ -1,16 +1,33 @@
-//! Class files: which of them are thin, and what their code does.
+//! Class files: which of them are thin, what the first fault of the others is, and what their code does.
+//! The expected faults were worked out by hand, each the first in reading order, with its place.
 
 use crate::running::check;
 use std::alloc::{AllocError, Global};
+use std::process::Abort;
 use std::test::Fail;
 use tests_devices::{ADDS, Change, changed, lengthened, line_for, thin};
 
+/// The reply to a file that isn't thin and has no fault.
 const NOT_BUILT: &str = "refused 90 NotBuilt\n";
 
 /// The line for the worked file, and its reply.
 const LINE: &[u8] = b"once T.class f (II)I 5 3";
 
 const SUM: &str = "ok returns 8\n";
+
+/// That line, and the one that adds the class.
+const BOTH: &[u8] = b"once T.class f (II)I 5 3\nclass T.class";
+
+/// That `once` and `class` both give this refusal where T.class is this file.
+fn check_refused(
+    rt: &(impl Abort + AllocGlobal),
+    what: &str,
+    file: &[u8],
+    refusal: &str,
+) -> Result<(), AllocError> {
+    let want = format!(in rt.alloc(); "{refusal}{refusal}")?;
+    check(rt, what, file, BOTH, want.as_str())
+}
 
 /// What is changed in the worked file where it stays thin.
 static THIN: [(&str, &[Change]); 27] = [
@@ -98,27 +115,91 @@ static THIN: [(&str, &[Change]); 27] = [
     ("more locals", &[(86, 2, b"\x00\x03")]),
 ];
 
-/// What is changed in the worked file where it is thin no more: its frame, its pool and its class.
-static NO_CLASS: [(&str, &[Change]); 39] = [
-    ("the first byte", &[(0, 1, b"\xcb")]),
-    ("the last byte of the magic number", &[(3, 1, b"\xbf")]),
-    ("a version that is too old", &[(6, 2, b"\x00\x2c")]),
-    ("a version that is too new", &[(6, 2, b"\x00\x35")]),
-    ("a version of two bytes", &[(6, 2, b"\x01\x34")]),
-    ("a pool of count 0", &[(8, 2, b"\x00\x00")]),
-    ("a count 0 and no entries", &[(8, 50, b"\x00\x00")]),
-    ("an empty pool", &[(8, 50, b"\x00\x01")]),
-    ("a count one too low", &[(8, 2, b"\x00\x07")]),
-    ("a count one too high", &[(8, 2, b"\x00\x09")]),
-    ("tag 0", &[(8, 2, b"\x00\x09"), (58, 0, b"\x00\x00\x01")]),
-    ("tag 2", &[(8, 2, b"\x00\x09"), (58, 0, b"\x02\x00\x01")]),
+/// The worked file says that it has two methods.
+const TWO_METHODS: Change = (68, 2, b"\x00\x02");
+
+/// The last instruction of its code is a push without its byte.
+const CUT: Change = (95, 1, b"\x10");
+
+/// A second method, named T, whose code is such a push and has the place 122.
+const CUT_METHOD: Change = (
+    100,
+    0,
+    b"\x00\x09\x00\x01\x00\x06\x00\x01\x00\x07\x00\x00\x00\x0d\x00\x01\x00\x02\x00\x00\x00\x01\x10\x00\x00\x00\x00",
+);
+
+/// What is changed in the worked file where it is thin no more, and the reply: its frame, its pool and its
+/// class.
+static NO_CLASS: [(&str, &[Change], &str); 41] = [
+    (
+        "the first byte",
+        &[(0, 1, b"\xcb")],
+        "refused 5 Class Magic 0\n",
+    ),
+    (
+        "the last byte of the magic number",
+        &[(3, 1, b"\xbf")],
+        "refused 5 Class Magic 0\n",
+    ),
+    (
+        "a version that is too old",
+        &[(6, 2, b"\x00\x2c")],
+        "refused 5 Class Version 6\n",
+    ),
+    (
+        "a version that is too new",
+        &[(6, 2, b"\x00\x35")],
+        "refused 5 Class Version 6\n",
+    ),
+    (
+        "a version of two bytes",
+        &[(6, 2, b"\x01\x34")],
+        "refused 5 Class Version 6\n",
+    ),
+    (
+        "a pool of count 0",
+        &[(8, 2, b"\x00\x00")],
+        "refused 5 Class Pool 8\n",
+    ),
+    (
+        "a count 0 and no entries",
+        &[(8, 50, b"\x00\x00")],
+        "refused 5 Class Pool 8\n",
+    ),
+    (
+        "an empty pool",
+        &[(8, 50, b"\x00\x01")],
+        "refused 5 Class Index 12\n",
+    ),
+    (
+        "a count one too low",
+        &[(8, 2, b"\x00\x07")],
+        "refused 5 Class Index 53\n",
+    ),
+    (
+        "a count one too high",
+        &[(8, 2, b"\x00\x09")],
+        "refused 5 Class Pool 58\n",
+    ),
+    (
+        "tag 0",
+        &[(8, 2, b"\x00\x09"), (58, 0, b"\x00\x00\x01")],
+        "refused 5 Class Pool 58\n",
+    ),
+    (
+        "tag 2",
+        &[(8, 2, b"\x00\x09"), (58, 0, b"\x02\x00\x01")],
+        "refused 5 Class Pool 58\n",
+    ),
     (
         "an int",
         &[(8, 2, b"\x00\x09"), (58, 0, b"\x03\x00\x00\x00\x01")],
+        NOT_BUILT,
     ),
     (
         "a float",
         &[(8, 2, b"\x00\x09"), (58, 0, b"\x04\x00\x00\x00\x01")],
+        NOT_BUILT,
     ),
     (
         "a long",
@@ -126,89 +207,177 @@ static NO_CLASS: [(&str, &[Change]); 39] = [
             (8, 2, b"\x00\x0a"),
             (58, 0, b"\x05\x00\x00\x00\x00\x00\x00\x00\x01"),
         ],
+        NOT_BUILT,
     ),
-    ("a string", &[(8, 2, b"\x00\x09"), (58, 0, b"\x08\x00\x01")]),
+    (
+        "a string",
+        &[(8, 2, b"\x00\x09"), (58, 0, b"\x08\x00\x01")],
+        NOT_BUILT,
+    ),
     (
         "a field of a class",
         &[(8, 2, b"\x00\x09"), (58, 0, b"\x09\x00\x02\x00\x01")],
+        "refused 5 Class Index 58\n",
     ),
     (
         "a method of a class",
         &[(8, 2, b"\x00\x09"), (58, 0, b"\x0a\x00\x02\x00\x01")],
+        "refused 5 Class Index 58\n",
     ),
     (
         "a name and a type",
         &[(8, 2, b"\x00\x09"), (58, 0, b"\x0c\x00\x05\x00\x06")],
+        NOT_BUILT,
     ),
     (
         "a class named by a class",
         &[(8, 2, b"\x00\x09"), (58, 0, b"\x07\x00\x02")],
+        "refused 5 Class Index 58\n",
     ),
     (
         "a class named by nothing",
         &[(8, 2, b"\x00\x09"), (58, 0, b"\x07\x00\x00")],
+        "refused 5 Class Index 58\n",
     ),
     (
         "a class named from outside the pool",
         &[(8, 2, b"\x00\x09"), (58, 0, b"\x07\x00\x09")],
+        "refused 5 Class Index 58\n",
     ),
-    ("this class is a text", &[(60, 2, b"\x00\x01")]),
-    ("this class is none", &[(60, 2, b"\x00\x00")]),
-    ("this class is outside the pool", &[(60, 2, b"\x00\x08")]),
-    ("the parent is another class", &[(62, 2, b"\x00\x02")]),
-    ("the parent is a text", &[(62, 2, b"\x00\x03")]),
-    ("the parent is none", &[(62, 2, b"\x00\x00")]),
-    ("the parent has another name", &[(35, 1, b"T")]),
-    ("an interface", &[(64, 2, b"\x00\x01\x00\x02")]),
+    (
+        "this class is a text",
+        &[(60, 2, b"\x00\x01")],
+        "refused 5 Class Index 60\n",
+    ),
+    (
+        "this class is none",
+        &[(60, 2, b"\x00\x00")],
+        "refused 5 Class Index 60\n",
+    ),
+    (
+        "this class is outside the pool",
+        &[(60, 2, b"\x00\x08")],
+        "refused 5 Class Index 60\n",
+    ),
+    (
+        "the parent is another class",
+        &[(62, 2, b"\x00\x02")],
+        "refused 5 Class Super 62\n",
+    ),
+    (
+        "the parent is a text",
+        &[(62, 2, b"\x00\x03")],
+        "refused 5 Class Super 62\n",
+    ),
+    (
+        "the parent is none",
+        &[(62, 2, b"\x00\x00")],
+        "refused 5 Class Super 62\n",
+    ),
+    (
+        "the parent has another name",
+        &[(35, 1, b"T")],
+        "refused 5 Class Super 62\n",
+    ),
+    ("an interface", &[(64, 2, b"\x00\x01\x00\x02")], NOT_BUILT),
     (
         "a field",
         &[(66, 2, b"\x00\x01\x00\x09\x00\x05\x00\x06\x00\x00")],
+        NOT_BUILT,
     ),
-    ("no method", &[(68, 32, b"\x00\x00")]),
+    (
+        "a field twice",
+        &[(
+            66,
+            2,
+            b"\x00\x02\x00\x09\x00\x05\x00\x06\x00\x00\x00\x01\x00\x05\x00\x06\x00\x00",
+        )],
+        "refused 5 Class Duplicate 76\n",
+    ),
+    ("no method", &[(68, 32, b"\x00\x00")], NOT_BUILT),
     (
         "a second method",
         &[
             (68, 2, b"\x00\x02"),
             (100, 0, b"\x01\x09\x00\x01\x00\x06\x00\x00"),
         ],
+        NOT_BUILT,
+    ),
+    (
+        "the method twice",
+        &[TWO_METHODS, (100, 0, b"\x01\x09\x00\x05\x00\x06\x00\x00")],
+        "refused 5 Class Duplicate 100\n",
     ),
     (
         "a class attribute that isn't there",
         &[(100, 2, b"\x00\x01")],
+        "refused 5 Class Short 102\n",
     ),
     (
         "a class attribute that is cut",
         &[(100, 2, b"\x00\x01\x00\x01\x00\x00\x00\x02a")],
+        "refused 5 Class Short 108\n",
     ),
     (
         "a class attribute named by a class",
         &[(100, 2, b"\x00\x01\x00\x02\x00\x00\x00\x00")],
+        "refused 5 Class Index 102\n",
     ),
     (
         "a class attribute named by nothing",
         &[(100, 2, b"\x00\x01\x00\x00\x00\x00\x00\x00")],
+        "refused 5 Class Index 102\n",
     ),
     (
         "a class attribute named from outside the pool",
         &[(100, 2, b"\x00\x01\x00\x08\x00\x00\x00\x00")],
+        "refused 5 Class Index 102\n",
     ),
-    ("one more byte", &[(102, 0, b"\x00")]),
+    (
+        "one more byte",
+        &[(102, 0, b"\x00")],
+        "refused 5 Class Trailing 102\n",
+    ),
 ];
 
 /// The same: its method and its code.
-static NO_METHOD: [(&str, &[Change]); 44] = [
-    ("a method that isn't static", &[(70, 2, b"\x00\x01")]),
-    ("a native method", &[(70, 2, b"\x01\x09")]),
-    ("an abstract method", &[(70, 2, b"\x04\x09")]),
-    ("a synchronized method", &[(70, 2, b"\x00\x29")]),
-    ("a name that is a class", &[(72, 2, b"\x00\x04")]),
-    ("a name that is none", &[(72, 2, b"\x00\x00")]),
-    ("a descriptor that is a class", &[(74, 2, b"\x00\x04")]),
-    ("a descriptor outside the pool", &[(74, 2, b"\x00\x08")]),
-    ("no attribute", &[(76, 24, b"\x00\x00")]),
-    ("a Code by another name", &[(78, 2, b"\x00\x05")]),
-    ("a Code named by a class", &[(78, 2, b"\x00\x04")]),
-    ("a name like Code", &[(57, 1, b"d")]),
+static NO_METHOD: [(&str, &[Change], &str); 44] = [
+    (
+        "a method that isn't static",
+        &[(70, 2, b"\x00\x01")],
+        NOT_BUILT,
+    ),
+    ("a native method", &[(70, 2, b"\x01\x09")], NOT_BUILT),
+    ("an abstract method", &[(70, 2, b"\x04\x09")], NOT_BUILT),
+    ("a synchronized method", &[(70, 2, b"\x00\x29")], NOT_BUILT),
+    (
+        "a name that is a class",
+        &[(72, 2, b"\x00\x04")],
+        "refused 5 Class Index 72\n",
+    ),
+    (
+        "a name that is none",
+        &[(72, 2, b"\x00\x00")],
+        "refused 5 Class Index 72\n",
+    ),
+    (
+        "a descriptor that is a class",
+        &[(74, 2, b"\x00\x04")],
+        "refused 5 Class Index 74\n",
+    ),
+    (
+        "a descriptor outside the pool",
+        &[(74, 2, b"\x00\x08")],
+        "refused 5 Class Index 74\n",
+    ),
+    ("no attribute", &[(76, 24, b"\x00\x00")], NOT_BUILT),
+    ("a Code by another name", &[(78, 2, b"\x00\x05")], NOT_BUILT),
+    (
+        "a Code named by a class",
+        &[(78, 2, b"\x00\x04")],
+        "refused 5 Class Index 78\n",
+    ),
+    ("a name like Code", &[(57, 1, b"d")], NOT_BUILT),
     (
         "two Codes",
         &[
@@ -219,38 +388,72 @@ static NO_METHOD: [(&str, &[Change]); 44] = [
                 b"\x00\x07\x00\x00\x00\x10\x00\x02\x00\x02\x00\x00\x00\x04\x1a\x1b\x60\xac\x00\x00\x00\x00",
             ),
         ],
+        "refused 5 Class Shape 100\n",
     ),
     (
         "a second Code that is empty",
         &[(76, 2, b"\x00\x02"), (100, 0, b"\x00\x07\x00\x00\x00\x00")],
+        "refused 5 Class Shape 100\n",
     ),
     (
         "an attribute named by a class",
         &[(76, 2, b"\x00\x02"), (100, 0, b"\x00\x02\x00\x00\x00\x00")],
+        "refused 5 Class Index 100\n",
     ),
-    ("a Code one byte short", &[(80, 4, b"\x00\x00\x00\x0f")]),
+    (
+        "a Code one byte short",
+        &[(80, 4, b"\x00\x00\x00\x0f")],
+        "refused 5 Class Shape 78\n",
+    ),
     (
         "a Code one byte long",
         &[(80, 4, b"\x00\x00\x00\x11"), (100, 0, b"\x00")],
+        "refused 5 Class Shape 78\n",
     ),
-    ("a Code beyond the end", &[(80, 4, b"\x00\x00\x00\x13")]),
-    ("a stack that is too high", &[(84, 2, b"\x01\x01")]),
-    ("a stack that is too low", &[(84, 2, b"\x00\x01")]),
-    ("no stack", &[(84, 2, b"\x00\x00")]),
-    ("too many locals", &[(86, 2, b"\x01\x01")]),
-    ("fewer locals than parameters", &[(86, 2, b"\x00\x01")]),
-    ("code that is cut", &[(88, 4, b"\x00\x00\x00\x03")]),
-    ("code that is too long", &[(88, 4, b"\x00\x00\x00\x05")]),
+    (
+        "a Code beyond the end",
+        &[(80, 4, b"\x00\x00\x00\x13")],
+        "refused 5 Class Short 84\n",
+    ),
+    (
+        "a stack that is too high",
+        &[(84, 2, b"\x01\x01")],
+        NOT_BUILT,
+    ),
+    (
+        "a stack that is too low",
+        &[(84, 2, b"\x00\x01")],
+        NOT_BUILT,
+    ),
+    ("no stack", &[(84, 2, b"\x00\x00")], NOT_BUILT),
+    ("too many locals", &[(86, 2, b"\x01\x01")], NOT_BUILT),
+    (
+        "fewer locals than parameters",
+        &[(86, 2, b"\x00\x01")],
+        NOT_BUILT,
+    ),
+    (
+        "code that is cut",
+        &[(88, 4, b"\x00\x00\x00\x03")],
+        "refused 5 Class Shape 78\n",
+    ),
+    (
+        "code that is too long",
+        &[(88, 4, b"\x00\x00\x00\x05")],
+        "refused 5 Class Shape 78\n",
+    ),
     (
         "a handler",
         &[
             (80, 4, b"\x00\x00\x00\x18"),
             (96, 2, b"\x00\x01\x00\x00\x00\x01\x00\x02\x00\x00"),
         ],
+        NOT_BUILT,
     ),
     (
         "an attribute of the Code that isn't there",
         &[(98, 2, b"\x00\x01")],
+        "refused 5 Class Shape 78\n",
     ),
     (
         "an attribute of the Code named by a class",
@@ -258,6 +461,7 @@ static NO_METHOD: [(&str, &[Change]); 44] = [
             (80, 4, b"\x00\x00\x00\x16"),
             (98, 2, b"\x00\x01\x00\x02\x00\x00\x00\x00"),
         ],
+        "refused 5 Class Index 100\n",
     ),
     (
         "an attribute of the Code that is cut",
@@ -265,39 +469,238 @@ static NO_METHOD: [(&str, &[Change]); 44] = [
             (80, 4, b"\x00\x00\x00\x16"),
             (98, 2, b"\x00\x01\x00\x01\x00\x00\x00\x01"),
         ],
+        "refused 5 Class Shape 78\n",
     ),
     (
         "the third parameter of two",
         &[(92, 4, b"\x1a\x1c\x60\xac")],
+        NOT_BUILT,
     ),
     (
         "the fourth parameter of two",
         &[(92, 4, b"\x1d\x1b\x60\xac")],
+        NOT_BUILT,
     ),
-    ("a load of a long", &[(92, 4, b"\x1a\x1e\x60\xac")]),
+    (
+        "a load of a long",
+        &[(92, 4, b"\x1a\x1e\x60\xac")],
+        NOT_BUILT,
+    ),
     (
         "an instruction that does nothing",
         &[(84, 2, b"\x00\x03"), (92, 4, b"\x00\x1a\xac\x00")],
+        NOT_BUILT,
     ),
-    ("a multiplication", &[(92, 4, b"\x1a\x1b\x68\xac")]),
-    ("a negation", &[(92, 4, b"\x03\x1a\x74\xac")]),
-    ("a null", &[(92, 4, b"\x01\x1b\x60\xac")]),
-    ("a long constant", &[(92, 4, b"\x09\x1b\x60\xac")]),
-    ("a return of a long", &[(92, 4, b"\x1a\x1b\x60\xad")]),
-    ("a sum of one operand", &[(92, 4, b"\x1a\x60\x1b\xac")]),
+    (
+        "a multiplication",
+        &[(92, 4, b"\x1a\x1b\x68\xac")],
+        NOT_BUILT,
+    ),
+    ("a negation", &[(92, 4, b"\x03\x1a\x74\xac")], NOT_BUILT),
+    ("a null", &[(92, 4, b"\x01\x1b\x60\xac")], NOT_BUILT),
+    (
+        "a long constant",
+        &[(92, 4, b"\x09\x1b\x60\xac")],
+        NOT_BUILT,
+    ),
+    (
+        "a return of a long",
+        &[(92, 4, b"\x1a\x1b\x60\xad")],
+        NOT_BUILT,
+    ),
+    (
+        "a sum of one operand",
+        &[(92, 4, b"\x1a\x60\x1b\xac")],
+        NOT_BUILT,
+    ),
     (
         "a difference of one operand",
         &[(92, 4, b"\x1a\x64\x1b\xac")],
+        NOT_BUILT,
     ),
-    ("no return", &[(92, 4, b"\x1a\x1b\x60\x1b")]),
+    ("no return", &[(92, 4, b"\x1a\x1b\x60\x1b")], NOT_BUILT),
     (
         "a return of two words",
         &[(84, 2, b"\x00\x03"), (92, 4, b"\x1a\x1b\x1a\xac")],
+        NOT_BUILT,
     ),
-    ("a return of no word", &[(92, 4, b"\xac\x1a\x1b\xac")]),
+    (
+        "a return of no word",
+        &[(92, 4, b"\xac\x1a\x1b\xac")],
+        NOT_BUILT,
+    ),
     (
         "a byte to push that isn't there",
         &[(92, 4, b"\x1a\x1b\x60\x10")],
+        "refused 5 Class Cut 95\n",
+    ),
+];
+
+/// The same: codes at fault, codes that are foreign, and codes at fault that aren't looked at.
+static NO_CODE: [(&str, &[Change], &str); 30] = [
+    (
+        "a branch behind the code",
+        &[(92, 4, b"\x99\x00\x04\xac")],
+        "refused 5 Class Target 92\n",
+    ),
+    (
+        "a handler behind the code",
+        &[
+            (80, 4, b"\x00\x00\x00\x18"),
+            (96, 2, b"\x00\x01\x00\x00\x00\x01\x00\x04\x00\x00"),
+        ],
+        "refused 5 Class Target 98\n",
+    ),
+    (
+        "a switch over the keys from 1 to 0",
+        &[
+            (80, 4, b"\x00\x00\x00\x1c"),
+            (
+                88,
+                8,
+                b"\x00\x00\x00\x10\xaa\x00\x00\x00\x00\x00\x00\x00\x00\x00\x00\x01\x00\x00\x00\x00",
+            ),
+        ],
+        "refused 5 Class Switch 92\n",
+    ),
+    (
+        "a switch over -1 keys",
+        &[
+            (80, 4, b"\x00\x00\x00\x18"),
+            (
+                88,
+                8,
+                b"\x00\x00\x00\x0c\xab\x00\x00\x00\x00\x00\x00\x00\xff\xff\xff\xff",
+            ),
+        ],
+        "refused 5 Class Switch 92\n",
+    ),
+    ("a push that is cut", &[CUT], "refused 5 Class Cut 95\n"),
+    // A fault of the class comes first, and then the methods in their order.
+    (
+        "a push that is cut, and one more byte",
+        &[CUT, (102, 0, b"\x00")],
+        "refused 5 Class Trailing 102\n",
+    ),
+    (
+        "a push that is cut in the second method",
+        &[TWO_METHODS, CUT_METHOD],
+        "refused 5 Class Cut 122\n",
+    ),
+    (
+        "one in each method",
+        &[TWO_METHODS, CUT, CUT_METHOD],
+        "refused 5 Class Cut 95\n",
+    ),
+    (
+        "a branch behind the code in the first, and a push that is cut in the second",
+        &[TWO_METHODS, (92, 4, b"\x99\x00\x04\xac"), CUT_METHOD],
+        "refused 5 Class Target 92\n",
+    ),
+    // In a code the instructions come first, and then their targets.
+    (
+        "a branch behind the code, and then a push that is cut",
+        &[(92, 4, b"\x99\x00\x04\x10")],
+        "refused 5 Class Cut 95\n",
+    ),
+    (
+        "a branch behind the code, and then a foreign opcode",
+        &[(92, 4, b"\x99\x00\x04\xba")],
+        NOT_BUILT,
+    ),
+    // A foreign method has no fault, and hides none of another method.
+    ("a foreign opcode", &[(92, 1, b"\xba")], NOT_BUILT),
+    (
+        "a foreign opcode, and then a push that is cut",
+        &[(92, 1, b"\xba"), CUT],
+        NOT_BUILT,
+    ),
+    (
+        "a push that is cut behind a foreign method",
+        &[TWO_METHODS, (92, 1, b"\xba"), CUT_METHOD],
+        "refused 5 Class Cut 122\n",
+    ),
+    // The widest frame, and types of each kind: the code is looked at.
+    (
+        "a push that is cut, and the highest stack",
+        &[(84, 2, b"\x01\x00"), CUT],
+        "refused 5 Class Cut 95\n",
+    ),
+    (
+        "a push that is cut, and the most locals",
+        &[(86, 2, b"\x01\x00"), CUT],
+        "refused 5 Class Cut 95\n",
+    ),
+    (
+        "a push that is cut, an array and no result",
+        &[(46, 5, b"([I)V"), CUT],
+        "refused 5 Class Cut 95\n",
+    ),
+    (
+        "a push that is cut, and an array as result",
+        &[(46, 5, b"(Z)[I"), CUT],
+        "refused 5 Class Cut 95\n",
+    ),
+    (
+        "a push that is cut, and small ints",
+        &[(46, 5, b"(BC)S"), CUT],
+        "refused 5 Class Cut 95\n",
+    ),
+    // What isn't so has a code that isn't looked at.
+    (
+        "a push that is cut, not static",
+        &[(70, 2, b"\x00\x01"), CUT],
+        NOT_BUILT,
+    ),
+    (
+        "a push that is cut, native",
+        &[(70, 2, b"\x01\x09"), CUT],
+        NOT_BUILT,
+    ),
+    (
+        "a push that is cut, abstract",
+        &[(70, 2, b"\x04\x09"), CUT],
+        NOT_BUILT,
+    ),
+    (
+        "a push that is cut, synchronized",
+        &[(70, 2, b"\x00\x29"), CUT],
+        NOT_BUILT,
+    ),
+    (
+        "a push that is cut, and a stack that is too high",
+        &[(84, 2, b"\x01\x01"), CUT],
+        NOT_BUILT,
+    ),
+    (
+        "a push that is cut, and too many locals",
+        &[(86, 2, b"\x01\x01"), CUT],
+        NOT_BUILT,
+    ),
+    (
+        "a push that is cut, and fewer locals than parameters",
+        &[(86, 2, b"\x00\x01"), CUT],
+        NOT_BUILT,
+    ),
+    (
+        "a push that is cut, and a long to take",
+        &[(46, 5, b"(JI)I"), CUT],
+        NOT_BUILT,
+    ),
+    (
+        "a push that is cut, and a long to return",
+        &[(46, 5, b"(II)J"), CUT],
+        NOT_BUILT,
+    ),
+    (
+        "a push that is cut, and a parameter of no type",
+        &[(46, 5, b"(VI)I"), CUT],
+        NOT_BUILT,
+    ),
+    (
+        "a push that is cut, and no descriptor of a method",
+        &[(46, 5, b"III)I"), CUT],
+        NOT_BUILT,
     ),
 ];
 
@@ -307,35 +710,141 @@ fn thin_files_run_and_others_are_refused(rt: HostRuntime) -> Result<(), Fail> {
         let file = changed(rt.alloc(), changes)?;
         check(&rt, what, file.as_slice(), LINE, SUM)?;
     }
-    for (what, changes) in NO_CLASS.iter().chain(NO_METHOD.iter()) {
+    for (what, changes, refusal) in NO_CLASS.iter().chain(NO_METHOD.iter()) {
         let file = changed(rt.alloc(), changes)?;
-        check(&rt, what, file.as_slice(), LINE, NOT_BUILT)?;
+        check_refused(&rt, what, file.as_slice(), refusal)?;
     }
     Ok(())
 }
 
 #[test]
-fn a_file_that_is_cut_is_refused(rt: HostRuntime) -> Result<(), Fail> {
-    for size in 0..ADDS.len() {
-        check(&rt, "a cut file", &ADDS[..size], LINE, NOT_BUILT)?;
+fn codes_at_fault_are_refused_where_they_are_looked_at(rt: HostRuntime) -> Result<(), Fail> {
+    for (what, changes, refusal) in &NO_CODE {
+        let file = changed(rt.alloc(), changes)?;
+        check_refused(&rt, what, file.as_slice(), refusal)?;
     }
     Ok(())
 }
 
-/// The throwables of java.lang that the machine knows.
-static THROWABLES: [&str; 12] = [
-    "java/lang/Throwable",
-    "java/lang/Exception",
-    "java/lang/Error",
-    "java/lang/RuntimeException",
-    "java/lang/ArithmeticException",
-    "java/lang/IndexOutOfBoundsException",
-    "java/lang/NegativeArraySizeException",
-    "java/lang/NullPointerException",
-    "java/lang/IllegalArgumentException",
-    "java/lang/IllegalStateException",
-    "java/lang/UnsupportedOperationException",
-    "java/lang/ArrayIndexOutOfBoundsException",
+/// Where those parts of the worked file begin that must be there whole: numbers, texts, the content of
+/// the Code.
+static PARTS: [usize; 37] = [
+    0, 4, 6, 8, 10, 11, 13, 14, 15, 17, 18, 20, 36, 37, 39, 40, 42, 43, 44, 46, 51, 52, 54, 58, 60,
+    62, 64, 66, 68, 70, 72, 74, 76, 78, 80, 84, 100,
+];
+
+#[test]
+fn a_file_that_is_cut_is_short_where_the_cut_part_begins(rt: HostRuntime) -> Result<(), Fail> {
+    let mut at = 0;
+    for size in 0..ADDS.len() {
+        if PARTS.contains(&size) {
+            at = size;
+        }
+        let refusal = format!(in rt.alloc(); "refused 5 Class Short {at}\n")?;
+        check_refused(&rt, "a cut file", &ADDS[..size], refusal.as_str())?;
+    }
+    Ok(())
+}
+
+/// What is changed in the worked file, what is typed, and what is written: which refusal comes first.
+static ORDER: [(&[Change], &str, &str); 16] = [
+    // The line, the file, its fault, and then the words.
+    (&[CUT], "once T.class f (II)I x 3", "refused 2 Command\n"),
+    (
+        &[CUT],
+        "once T.class f (II)I 2147483648 3",
+        "refused 13 Range\n",
+    ),
+    (&[CUT], "once T.class f (II)I", "refused 5 Class Cut 95\n"),
+    (
+        &[CUT],
+        "once T.class f (II)I 5 3 1",
+        "refused 5 Class Cut 95\n",
+    ),
+    (
+        &[CUT],
+        "once T.class g (II)I 5 3",
+        "refused 5 Class Cut 95\n",
+    ),
+    (
+        &[CUT],
+        "once T.class f (ZZ)I 5 3",
+        "refused 5 Class Cut 95\n",
+    ),
+    (
+        &[(0, 1, b"\xcb")],
+        "once T.class g (ZZ)I 5",
+        "refused 5 Class Magic 0\n",
+    ),
+    (
+        &[CUT],
+        "once U.class g (ZZ)I 5",
+        "refused 3 Absent U.class\n",
+    ),
+    (&[CUT], "class U.class", "refused 3 Absent U.class\n"),
+    // A fault, and then the class that is present, of another name or of the same.
+    (
+        &[CUT],
+        "class V.class\nclass T.class",
+        "ok class V verdicts 0 segments 0\nrefused 5 Class Cut 95\n",
+    ),
+    (
+        &[(13, 1, b"V"), CUT],
+        "class V.class\nclass T.class",
+        "ok class V verdicts 0 segments 0\nrefused 5 Class Cut 95\n",
+    ),
+    (
+        &[(13, 1, b"V"), (92, 1, b"\xba")],
+        "class V.class\nclass T.class",
+        "ok class V verdicts 0 segments 0\nrefused 90 NotBuilt\n",
+    ),
+    (
+        &[(13, 1, b"V")],
+        "class V.class\nclass T.class",
+        "ok class V verdicts 0 segments 0\nrefused 7 Known V\n",
+    ),
+    (
+        &[],
+        "class V.class\nclass T.class",
+        "ok class V verdicts 0 segments 0\nrefused 90 NotBuilt\n",
+    ),
+    // What is refused is not added, and keeps nothing out.
+    (
+        &[CUT],
+        "class T.class\nentry T f (II)I",
+        "refused 5 Class Cut 95\nrefused 8 Unknown T\n",
+    ),
+    (
+        &[CUT],
+        "class T.class\nclass V.class\nonce V.class f (II)I 5 3",
+        "refused 5 Class Cut 95\nok class V verdicts 0 segments 0\nok returns 8\n",
+    ),
+];
+
+#[test]
+fn a_fault_comes_before_what_does_not_fit(rt: HostRuntime) -> Result<(), Fail> {
+    for (changes, input, want) in &ORDER {
+        let file = changed(rt.alloc(), changes)?;
+        check(&rt, input, file.as_slice(), input.as_bytes(), want)?;
+    }
+    Ok(())
+}
+
+/// The throwables of java.lang that the machine knows, and the place of the superclass in a class of that
+/// name.
+static THROWABLES: [(&str, u64); 12] = [
+    ("java/lang/Throwable", 80),
+    ("java/lang/Exception", 80),
+    ("java/lang/Error", 76),
+    ("java/lang/RuntimeException", 87),
+    ("java/lang/ArithmeticException", 90),
+    ("java/lang/IndexOutOfBoundsException", 96),
+    ("java/lang/NegativeArraySizeException", 97),
+    ("java/lang/NullPointerException", 91),
+    ("java/lang/IllegalArgumentException", 95),
+    ("java/lang/IllegalStateException", 92),
+    ("java/lang/UnsupportedOperationException", 100),
+    ("java/lang/ArrayIndexOutOfBoundsException", 101),
 ];
 
 /// The worked file with a class of this name, of at most 255 bytes.
@@ -349,9 +858,10 @@ fn named(alloc: Global, name: &str) -> Result<Vec<u8>, AllocError> {
 
 #[test]
 fn a_class_is_no_throwable(rt: HostRuntime) -> Result<(), Fail> {
-    for name in &THROWABLES {
+    for (name, at) in &THROWABLES {
         let file = named(rt.alloc(), name)?;
-        check(&rt, name, file.as_slice(), LINE, NOT_BUILT)?;
+        let refusal = format!(in rt.alloc(); "refused 5 Class Super {at}\n")?;
+        check_refused(&rt, name, file.as_slice(), refusal.as_str())?;
     }
     for name in [
         "java/lang/ClassCastException",
@@ -450,7 +960,7 @@ static CODES: [(&str, usize, usize, &[u8], &str, &str); 37] = [
     ("()I", 0, 0, b"\x03\xac", "", NOT_BUILT),
     ("()I", 1, 0, b"\x1a\xac", "", NOT_BUILT),
     ("()I", 1, 0, b"\xac", "", NOT_BUILT),
-    ("()I", 1, 0, b"", "", NOT_BUILT),
+    ("()I", 1, 0, b"", "", "refused 5 Class Shape 76\n"),
     ("()I", 1, 0, b"\x03\x10\xac", "", NOT_BUILT),
     (
         "(IIIII)I",
@@ -521,10 +1031,19 @@ fn code_has_at_most_19999_bytes(rt: HostRuntime) -> Result<(), Fail> {
 
 #[test]
 fn files_have_at_most_a_mebibyte(rt: HostRuntime) -> Result<(), Fail> {
-    for (size, want) in [(1_048_576, SUM), (1_048_577, NOT_BUILT)] {
+    for (size, want) in [
+        (
+            1_048_576,
+            "ok returns 8\nok class T verdicts 0 segments 0\n",
+        ),
+        (
+            1_048_577,
+            "refused 4 TooLong T.class\nrefused 4 TooLong T.class\n",
+        ),
+    ] {
         let file = lengthened(rt.alloc(), size - 108)?;
         assert_eq!(rt; file.len(), size);
-        check(&rt, "a long file", file.as_slice(), LINE, want)?;
+        check(&rt, "a long file", file.as_slice(), BOTH, want)?;
     }
     Ok(())
 }

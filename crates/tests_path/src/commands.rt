@@ -1,4 +1,4 @@
-//! Command lines and the replies to them, over a shelf with the worked file alone.
+//! Command lines and the replies to them, over a shelf with the worked file and one without bytes.
 
 use crate::running::check;
 use std::test::Fail;
@@ -29,7 +29,7 @@ refused 2 Command
 }
 
 /// Lines and their replies.
-static REPLIES: [(&str, &str); 52] = [
+static REPLIES: [(&str, &str); 58] = [
     ("once", NO_COMMAND),
     ("once T.class", NO_COMMAND),
     ("once T.class f", NO_COMMAND),
@@ -89,11 +89,18 @@ static REPLIES: [(&str, &str); 52] = [
     ("once T.class f (II)I 1,2", NO_COMMAND),
     ("once T.class f (II)I 1 / :", NO_COMMAND),
     ("once U.class f (II)I", "refused 3 Absent U.class\n"),
+    ("once U.class f (II)I 1 2", "refused 3 Absent U.class\n"),
+    ("once U.class g (ZZ)I 2", "refused 3 Absent U.class\n"),
+    // A file at fault is seen before the words.
+    ("once W.class f (II)I 1 2", "refused 5 Class Short 0\n"),
+    ("once W.class f (II)I", "refused 5 Class Short 0\n"),
     // A number outside its range is seen before the file, and a token that is no number before that.
     ("once U.class f (II)I 9999999999", RANGE),
     ("once T.class g (II)I 1 2147483648", RANGE),
     ("once T.class f (II)I 9999999999 x", NO_COMMAND),
     ("once U.class f (II)I x", NO_COMMAND),
+    ("once W.class f (II)I 9999999999", RANGE),
+    ("once W.class f (II)I x", NO_COMMAND),
     ("once t.class f (II)I 1 2", "refused 3 Absent t.class\n"),
     ("once a\\b f d", "refused 3 Absent a\\x5cb\n"),
     ("once \\\\ f d", "refused 3 Absent \\x5c\\x5c\n"),

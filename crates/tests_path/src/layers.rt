@@ -106,8 +106,12 @@ fn faults_are_printed(rt: HostRuntime) -> Result<(), Fail> {
 #[test]
 fn a_strange_name_is_printed(rt: HostRuntime) -> Result<(), Fail> {
     let file = Name::of(rt.alloc(), b"a\\b !~\x00\x1f\x7f\xff")?;
-    let text = write_reply(rt.alloc(), &Reply::Absent { file })?;
-    let want = b"refused 3 Absent a\\x5cb\\x20!~\\x00\\x1f\\x7f\\xff\n";
+    let mut text = write_reply(rt.alloc(), &Reply::Absent { file })?;
+    let file = Name::of(rt.alloc(), b"\xff b")?;
+    let more = write_reply(rt.alloc(), &Reply::TooLong { file })?;
+    text.extend_from_slice(more.as_slice())?;
+    let want =
+        b"refused 3 Absent a\\x5cb\\x20!~\\x00\\x1f\\x7f\\xff\nrefused 4 TooLong \\xff\\x20b\n";
     assert_eq!(rt; text.as_slice(), want.as_slice());
     Ok(())
 }

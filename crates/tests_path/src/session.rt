@@ -216,6 +216,7 @@ class U.class
 class W.class
 class V.class
 class T.class
+class W.class
 class V.class
 entry T f (ZZ)I
 entry V g (II)I
@@ -228,9 +229,10 @@ depth 257
 refused 10 NoEntry
 refused 10 NoEntry
 refused 3 Absent U.class
-refused 90 NotBuilt
+refused 5 Class Short 0
 ok class V verdicts 0 segments 0
 refused 90 NotBuilt
+refused 5 Class Short 0
 refused 7 Known V
 refused 8 Unknown T
 refused 11 EntryMissing
@@ -288,9 +290,36 @@ fn an_initialiser_is_no_entry(rt: HostRuntime) -> Result<(), Fail> {
     let input = "class T.class\nentry T <init> (II)I";
     let want = "ok class T verdicts 0 segments 0\nrefused 90 NotBuilt\n";
     check(&rt, input, object.as_slice(), input.as_bytes(), want)?;
-    let long = lengthened(rt.alloc(), 1_048_576)?;
-    let want = "refused 90 NotBuilt\n";
-    check(&rt, "a mebibyte", long.as_slice(), b"class T.class", want)?;
+    Ok(())
+}
+
+/// What is typed where T.class has more than 1,048,576 bytes, and what is written.
+static TOO_LONG: [(&str, &str); 8] = [
+    ("class T.class", "refused 4 TooLong T.class\n"),
+    (
+        "class V.class\nclass T.class",
+        "ok class V verdicts 0 segments 0\nrefused 4 TooLong T.class\n",
+    ),
+    (
+        "class T.class\nclass V.class",
+        "refused 4 TooLong T.class\nok class V verdicts 0 segments 0\n",
+    ),
+    ("once T.class f (II)I 1 2", "refused 4 TooLong T.class\n"),
+    ("once T.class g (II)I 1", "refused 4 TooLong T.class\n"),
+    ("once T.class f (II)I 2147483648 1", RANGE),
+    ("once T.class f (II)I x 1", NO_COMMAND),
+    ("once U.class f (II)I 1 2", "refused 3 Absent U.class\n"),
+];
+
+#[test]
+fn a_file_that_is_too_long_is_refused(rt: HostRuntime) -> Result<(), Fail> {
+    // The attribute that is added stands with 108 bytes more.
+    for size in [1_048_577 - 108, 1_048_576] {
+        let long = lengthened(rt.alloc(), size)?;
+        for (input, want) in &TOO_LONG {
+            check(&rt, input, long.as_slice(), input.as_bytes(), want)?;
+        }
+    }
     Ok(())
 }
 
