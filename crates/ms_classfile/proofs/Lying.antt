@@ -7,11 +7,11 @@ use Rattle.std.proofs.lemmas.List.Elements.{All-append}
 use Rattle.ms_pool.specs.declared.code.ClassKind.TheVariants as kinds
 use Rattle.ms_pool.specs.declared.code.RawHandler.{RawHandler}
 use Rattle.ms_pool.specs.Places.{Place, beginning, behind, first_of}
-use Rattle.ms_pool.specs.Numbers.{IsBytes, IsBytes-take, all_from_bytes}
+use Rattle.ms_pool.specs.Numbers.{IsBytes, IsBytes-take, all_from_bytes, width2}
 use Rattle.ms_pool.specs.Pools.{Placed, has_tag, spelled_pool}
 use Rattle.ms_pool.specs.ByNumber.{class_name, integer, utf8}
 use Rattle.ms_pool.specs.Formats.{Format, number, run, here, found, check, end, either, added, repeated, within}
-use Rattle.ms_pool.specs.Exact.{enough_ok, ok_is, then_ok}
+use Rattle.ms_pool.specs.Exact.{enough_ok, number_exact, ok_is, then_ok}
 use Rattle.ms_pool.specs.Forward.{GoesOn, IsForward, added_forward, both_forward, bytes_of, check_forward, done_forward, either_forward, found_forward, here_forward, number_forward, repeated_forward, run_forward, was_within, whole_of, within_forward}
 use Rattle.ms_classfile.specs.declared.fault.ClassFault.{ClassFault}
 use Rattle.ms_classfile.specs.declared.fault.ClassFault.TheVariants.{At}
@@ -292,9 +292,18 @@ pool_goes size place x in_file found =
       ends = omega (arith, is.is.moved, ap (λ (l : List ℕ). length l) is.is.spelled.bytes, length-append (spelled_pool is.entries) x.1.left, in_file.ends);
     }
 
-pub codes_lie : (file : List ℕ) (class : Class) → IsBytes file → IsClassFile file class → All (HasCodeWithin (length file)) class.methods
+methods_many : (n : ℕ) (slots : List (Option Placed)) (before : List Method) (place : Place) (x : List Method × Place) → (repeated n (added (method slots)) before).read place ≡ Ok x → length x.0 ≡ length before + n
+methods_many zero slots before place x found = ap (λ (y : List Method × Place). length y.0) (sym (ok_is {Fault = ClassFault} (before, place) x found)) ∙ omega arith
+methods_many (suc n) slots before place x found =
+    then_ok ((added (method slots) before).read place) _ x found (λ more is_more rest.
+    then_ok ((method slots before).read place) _ more is_more (λ one is_one last.
+    let same = ok_is {Fault = ClassFault} (before ++ one.0 ∷ [], one.1) more last in
+    omega (arith, methods_many n slots more.0 more.1 x rest, ap (λ (y : List Method × Place). length y.0) same, length-append before (one.0 ∷ []))))
+
+-- each code lies within the file, and there are fewer methods than a number of two bytes can count
+methods_are : (file : List ℕ) (class : Class) → IsBytes file → IsClassFile file class → All (HasCodeWithin (length file)) class.methods × (length class.methods < 2 ^ 16)
 unfolding class_file
-codes_lie file class bytes is =
+methods_are file class bytes is =
     let found = class_file_exact.reads (beginning file) class is.after bytes is.is in
     let size = length file in
     let start : InFile size (beginning file) = record { bytes = bytes; ends = omega arith } in
@@ -312,9 +321,16 @@ codes_lie file class bytes is =
     then_ok ((u2 short).read fields.1) _ methods are_methods (λ count is_count repeats.
     let p6 = later size fields.1 count.1 ((number_forward short 2).goes fields.1 count is_count) p5 in
     let all = methods_lie count.0 slots.0 [] size count.1 methods p6 (none_yet size) repeats in
+    let few : length methods.0 < 2 ^ 16 = omega (arith, methods_many count.0 slots.0 [] count.1 methods repeats, ((number_exact short 2 width2).spells fields.1 count p5.bytes is_count).fits) in
     then_ok ((counted short (attribute short slots.0) tt).read methods.1) _ (class, is.after) rest (λ attributes are_attributes rest.
     then_ok ((end (λ at. At kinds.Trailing at)).read attributes.1) _ (class, is.after) rest (λ ended is_ended last.
-    subst (λ (y : Class × Place). All (HasCodeWithin size) y.0.methods) (ok_is {Fault = ClassFault} (record { major = major.0; pool = slots.0; name = this.0.1; this_index = this.0.0; fields = fields.0; methods = methods.0 }, ended.1) (class, is.after) last) all)))))))))
+    subst (λ (y : Class × Place). All (HasCodeWithin size) y.0.methods × (length y.0.methods < 2 ^ 16)) (ok_is {Fault = ClassFault} (record { major = major.0; pool = slots.0; name = this.0.1; this_index = this.0.0; fields = fields.0; methods = methods.0 }, ended.1) (class, is.after) last) (all, few))))))))))
+
+pub codes_lie : (file : List ℕ) (class : Class) → IsBytes file → IsClassFile file class → All (HasCodeWithin (length file)) class.methods
+codes_lie file class bytes is = (methods_are file class bytes is).0
+
+pub few_methods : (file : List ℕ) (class : Class) → IsBytes file → IsClassFile file class → length class.methods < 2 ^ 16
+few_methods file class bytes is = (methods_are file class bytes is).1
 
 -- so it is of what a reader returned
 pub codes_of : {X : Type 0} (seen : X → Class) (file : List ℕ) (result : Result X ClassFault) → IsBytes file → Gives seen result (class_file.read (beginning file)) → IfOk result (λ x. All (HasCodeWithin (length file)) (seen x).methods)

@@ -1,6 +1,6 @@
 //! How a class file is read, part by part.
 
-ghost use Rattle.std.specs.Prelude.{◌≡◌, ◌⊎◌, ◌↔◌, ◌<◌, All, Err, IfErr, IfOk, List, Ok, length, map, ℕ};
+ghost use Rattle.std.specs.Prelude.{◌≡◌, ◌⊎◌, ◌↔◌, ◌<◌, ◌^◌, All, Err, IfErr, IfOk, List, Ok, length, map, ℕ};
 ghost use Rattle.ms_classfile.specs.ClassFile as files;
 ghost use Rattle.ms_classfile.specs.ClassFile.{IsClassFile, IsFirstFaultOf, class_file, counted, field_key, header, interface, is_object, method_key, pool, pool_fault, short, class_and_super};
 ghost use Rattle.ms_classfile.specs.ClassLaws.{AreDistinct, HasCodeWithin};
@@ -219,10 +219,11 @@ pub fn codes_lie_in_their_file()
 {}
 
 /// The law of members, of bytes below 256: no two fields of a class have the same name and descriptor, and
-/// no two methods. It does nothing.
+/// no two methods, of which there are at most 65,535. It does nothing.
 pub fn members_are_distinct()
     ensures fields { (bytes : List ℕ) (class : files.Class) → All (λ byte. byte < 256) bytes → IsClassFile bytes class → AreDistinct (map field_key class.fields) }
     ensures methods { (bytes : List ℕ) (class : files.Class) → All (λ byte. byte < 256) bytes → IsClassFile bytes class → AreDistinct (map method_key class.methods) }
+    ensures few { (bytes : List ℕ) (class : files.Class) → All (λ byte. byte < 256) bytes → IsClassFile bytes class → length class.methods < 2 ^ 16 }
 {}
 
 /// The law of constant pools in class files, of bytes below 256: the places of a class file's pool lead to

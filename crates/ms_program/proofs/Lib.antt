@@ -2,3 +2,4 @@ pub mod Files
 pub mod Reading
 pub mod Members
 pub mod Loading
+pub mod Entries

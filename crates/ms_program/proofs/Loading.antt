@@ -1,5 +1,7 @@
 -- The parts of a class are those of its file.
-use Rattle.std.proofs.Common.{◌≡◌, ℕ, List, Option, ℤ, ap, ◌∙◌}
+use Rattle.std.proofs.Common.{◌≡◌, ℕ, ◌<◌, ◌^◌, length, List, Option, ℤ, ap, arith, ◌∙◌}
+use Rattle.std.proofs.lemmas.List.{length-map}
+use Rattle.ms_classfile.specs.ClassFile.{method_key}
 use Rattle.ms_pool.specs.Pools.{Placed}
 use Rattle.ms_pool.specs.ByNumber.{entries_in, places_of}
 use Rattle.ms_program.specs.declared.body.Body.{Body}
@@ -12,9 +14,10 @@ same_class : (bytes : List ℕ) (pool other : List (Option Placed)) (name name' 
 same_class bytes pool other name name' fields fields' initials initials' methods methods' bodies one two three four five = cc
 
 pub is_class : (bytes places : List ℕ) (file : File) (name : List ℕ) (fields : List Key) (initials : List (Option ℤ)) (methods : List Key) → IsFile bytes file → HasMembers file.class name fields initials methods
-    → places ≡ places_of file.class.pool → entries_in bytes (places_of file.class.pool) ≡ file.class.pool → IsClass (class_with bytes (entries_in bytes places) name fields initials methods file.bodies)
-is_class bytes places file name fields initials methods is has placed held = record {
+    → places ≡ places_of file.class.pool → entries_in bytes (places_of file.class.pool) ≡ file.class.pool → length file.class.methods < 2 ^ 16 → IsClass (class_with bytes (entries_in bytes places) name fields initials methods file.bodies)
+is_class bytes places file name fields initials methods is has placed held few = record {
   says = file;
   is = is;
   class_is = same_class bytes (entries_in bytes places) file.class.pool name file.class.name fields _ initials _ methods _ file.bodies (ap (entries_in bytes) placed ∙ held) has.name_is has.fields_are has.initials_are has.methods_are;
+  few = omega (arith, few, ap (λ (keys : List Key). length keys) has.methods_are, length-map file.class.methods method_key);
 }

@@ -4,3 +4,4 @@ pub mod FileViews
 pub mod Reading
 pub mod Programs
 pub mod Parts
+pub mod Faults

@@ -1,4 +1,4 @@
-ghost use Rattle.std.specs.Prelude.{◌≡◌, ◌<◌, ◌+◌, ◌*◌, ◌^◌, All, IfErr, IfOk, IfSome, length, map, option_map};
+ghost use Rattle.std.specs.Prelude.{◌≡◌, ◌<◌, ◌+◌, ◌*◌, ◌^◌, All, IfErr, IfOk, IfSome, length, map, option_and_then, option_map, slice_get};
 ghost use Rattle.std.specs.Option.{option_copied};
 ghost use Rattle.ms_classfile.specs.ClassLaws.{HasCodeWithin, LiesWithin};
 ghost use Rattle.ms_classfile.specs.ClassViews.{class_view, code_view, method_view};
@@ -36,6 +36,15 @@ impl Model for Bodies {
     ghost Value = { List (Option body) };
 
     ghost view = { λ bodies. bodies.rows.items };
+}
+
+impl Bodies {
+    /// What the method of this number does, where it isn't foreign, lent.
+    pub fn get(&self, method: usize) -> Option<&Body>
+        ensures { option_copied result ≡ option_and_then (λ body. body) (slice_get self.now method) }
+    {
+        self.rows.get(method)?.as_ref()
+    }
 }
 
 /// Whether a method with these flags is static, and neither synchronized, native nor abstract.

@@ -6,8 +6,14 @@ mod body;
 mod file;
 mod laws;
 mod loaded;
+mod method;
 mod names;
+mod program;
+mod view;
 
 pub use body::{Bodies, Body};
 pub use file::{File, FileFault, first_fault, read_file};
 pub use laws::files_are_read;
+pub use method::MethodId;
+pub use program::{EntryRefusal, Program};
+pub use view::Initialiser;

@@ -1,15 +1,17 @@
-ghost use Rattle.std.specs.Prelude.{◌≡◌, IfErr, IfOk, OnErr, OnOk, length, map};
+ghost use Rattle.std.specs.Prelude.{◌≡◌, ◌<◌, ◌^◌, IfErr, IfOk, IfSome, length, map, option_map, slice_get};
+ghost use Rattle.std.specs.Option.{option_copied};
 ghost use Rattle.ms_classfile.specs.ClassFile.{field_key, method_key};
 ghost use Rattle.ms_classfile.specs.ClassLaws.{AreDistinct};
 ghost use Rattle.ms_classfile.specs.ClassViews.{class_view, field_view, method_view};
 ghost use Rattle.ms_pool.specs.ByNumber.{places_of};
 ghost use Rattle.ms_program.specs.Files.{IsFaultOf, IsFile};
 ghost use Rattle.ms_program.specs.Parts.{AreParts};
-ghost use Rattle.ms_program.specs.Programs.{HasMembers, IsClass, IsClassOf, initial_of};
+ghost use Rattle.ms_program.specs.Programs.{HasMembers, IsClass, IsClassOf, body_in, initial_in, initial_of, initialiser_in, method_in};
 
-use crate::body::Bodies;
+use crate::body::{Bodies, Body};
 use crate::file::{File, read_file};
 use crate::names::{Names, names_of};
+use crate::view::Initialiser;
 use ms_classfile::{Class, ClassFault, FieldRow, members_are_distinct, pools_lie_in_their_file};
 use ms_pool::PoolIndex;
 use std::alloc::{AllocError, Global};
@@ -138,5 +140,73 @@ impl Loaded {
             methods,
             bodies,
         })
+    }
+}
+
+impl Loaded {
+    /// The name.
+    pub(crate) fn name(&self) -> &[u8]
+        ensures { result.now ≡ self.now.name }
+    {
+        self.name.as_slice()
+    }
+
+    /// The bytes of the file.
+    pub(crate) fn file(&self) -> &[u8]
+        ensures { result.now ≡ self.now.file }
+    {
+        self.file.as_slice()
+    }
+
+    /// How many methods there are.
+    pub(crate) fn methods(&self) -> u16
+        ensures { result ≡ length self.now.methods }
+    {
+        self.methods.len() as u16
+    }
+
+    /// The name and the descriptor of the method of this number.
+    pub(crate) fn key(&self, method: u16) -> Option<(&[u8], &[u8])>
+        ensures { option_map (λ key. (key.0.now, key.1.now)) result ≡ slice_get self.now.methods method }
+    {
+        self.methods.get(usize::from(method))
+    }
+
+    /// What the method of this number does, where it isn't foreign.
+    pub(crate) fn body(&self, method: u16) -> Option<&Body>
+        ensures { option_copied result ≡ body_in self.now method }
+    {
+        self.bodies.get(usize::from(method))
+    }
+
+    /// The number of the method of this name and descriptor, where there is one that isn't foreign.
+    pub(crate) fn method(&self, name: &[u8], desc: &[u8]) -> Option<usize>
+        ensures method { result ≡ method_in self.now name.now desc.now }
+        ensures few { IfSome result (λ method. method < 2 ^ 16) }
+    {
+        let method = self.methods.find(name, desc)?;
+        let _body = self.bodies.get(method)?;
+        Some(method)
+    }
+
+    /// What the field of this name and descriptor has at first, where there is one that is static.
+    pub(crate) fn initial(&self, name: &[u8], desc: &[u8]) -> Option<i32>
+        ensures { result ≡ initial_in self.now name.now desc.now }
+    {
+        let field = self.fields.find(name, desc)?;
+        *self.initials.get(field)?
+    }
+
+    /// Whether there is an initialiser, and whether that is foreign.
+    pub(crate) fn initialiser(&self) -> Initialiser
+        ensures { result ≡ initialiser_in self.now }
+    {
+        match self.methods.find(b"<clinit>", b"()V") {
+            Some(method) => match self.bodies.get(method) {
+                Some(_body) => Initialiser::Present,
+                None => Initialiser::Foreign,
+            },
+            None => Initialiser::Absent,
+        }
     }
 }
