@@ -15,11 +15,11 @@ pub record LiesWithin (size : ℕ) (code : Code) : Type 0 where
 abbrev pub HasCodeWithin : ℕ → Method → Type 0
 HasCodeWithin size method = IfSome method.code (LiesWithin size)
 
--- each of these names with their descriptors is none of the earlier ones, which are these and those of them before it
+-- each of the keys, which are names with descriptors, differs from all of the earlier ones and from the keys before it
 abbrev pub AreNew : (earlier keys : List (List ℕ × List ℕ)) → Type 0
 AreNew earlier [] = Unit {0}
 AreNew earlier (key ∷ keys) = (is_there key.0 key.1 earlier ≡ false) × AreNew (earlier ++ key ∷ []) keys
 
--- they are all different
+-- no two of these keys are equal
 abbrev pub AreDistinct : List (List ℕ × List ℕ) → Type 0
 AreDistinct keys = AreNew [] keys

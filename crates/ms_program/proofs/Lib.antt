@@ -3,3 +3,5 @@ pub mod Reading
 pub mod Members
 pub mod Loading
 pub mod Entries
+pub mod Covering
+pub mod Keys

@@ -1,12 +1,14 @@
 -- Names with their descriptors, kept and looked for.
-use Rattle.std.proofs.Common.{◌≡◌, ℕ, ◌+◌, ◌<◌, ◌≤◌, List, [], ◌∷◌, ◌++◌, append_assoc, append-nil, length, map, drop, drop_of_length-le, get_or, Bool, false, cond, nat_lt, not, Some, None, refl, sym, ap, subst, ◌∙◌}
+use Rattle.std.proofs.Common.{◌≡◌, ℕ, ◌+◌, ◌<◌, ◌≤◌, List, [], ◌∷◌, ◌++◌, append_assoc, append-nil, length, map, drop, drop_of_length-le, get_or, slice_get, Bool, false, cond, nat_lt, not, Some, None, refl, sym, ap, subst, ◌∙◌}
 use Rattle.std.specs.Prelude.{◌||◌, if◌then◌else◌, position}
 use Rattle.std.specs.List.{list_any, position_or_len, prefix_len}
+use Rattle.std.proofs.lemmas.Option.{slice_get-get_or}
+use Rattle.std.proofs.lemmas.List.Quantifiers.{position-Some}
 use Rattle.std.proofs.lemmas.List.{drop_more, length-map, map-append}
 use Rattle.ms_classfile.specs.ClassFile.{is_there}
 use Rattle.ms_classfile.specs.ClassLaws.{AreDistinct, AreNew}
 use Rattle.ms_program.specs.declared.names.Kept.{Kept}
-use Rattle.ms_program.specs.Names.{Key, is_named, place_named}
+use Rattle.ms_program.specs.Names.{Key, is_named, place_named, same_key}
 
 -- a key that is kept
 abbrev pub key_of : Kept → Key
@@ -70,3 +72,10 @@ module _ {X : Type 0} (key : X → Key) (members : List X) where
 -- a name and a descriptor are those of a key
 pub key_is : (name desc : List ℕ) (key : Key) → name ≡ key.0 → desc ≡ key.1 → (name, desc) ≡ key
 key_is name desc key first second = ap (λ (n : List ℕ). (n, desc)) first ∙ ap (λ (d : List ℕ). (key.0, d)) second
+
+-- where a name and a descriptor are found, they stand
+pub named_there : (name desc : List ℕ) (keys : List Key) (i : ℕ) → place_named name desc keys ≡ Some i → slice_get keys i ≡ Some (name, desc)
+named_there name desc keys i found =
+    let at = position-Some (is_named name desc) keys i (name, desc) found in
+    let named = same_key name desc (get_or keys i (name, desc)) at.1 in
+    slice_get-get_or keys i (name, desc) at.0 ∙ ap (λ (key : Key). Some key) (sym (key_is name desc (get_or keys i (name, desc)) named.0 named.1))

@@ -67,7 +67,7 @@ pub record File : Type 0 where
   pub class : Class
   pub bodies : List (Option Body)
 
--- these bytes are this class file, and no code that is decoded is at fault
+-- these bytes are this class file, and these are the bodies of its methods: no code that is decoded is at fault
 abbrev pub IsFile : List ℕ → File → Type 0
 IsFile bytes file = IsClassFile bytes file.class × AreBodies file.class.pool file.class.methods file.bodies
 
@@ -79,7 +79,7 @@ pub record HasMethodAtFault (pool : List (Option Placed)) (method : Method) (kin
   pub decodable : decodable method ≡ Some code
   pub fault : HasFault pool (instructions_of code) kind at
 
--- so is that of the first of these methods that has a fault
+-- this is the fault of the first of these methods whose code has one: each before it has a body or is foreign
 abbrev pub HasCodeAtFault : List (Option Placed) → List Method → ClassKind → ℕ → Type 0
 HasCodeAtFault pool [] kind at = ⊥
 HasCodeAtFault pool (method ∷ methods) kind at = HasMethodAtFault pool method kind at ⊎ ((body : Option Body) × (IsBody pool method body × HasCodeAtFault pool methods kind at))
@@ -97,7 +97,7 @@ IsFirstFault bytes kind at = IsFirstFaultOf bytes (At kind at) ⊎ HasCodeFault 
 -- the fault is the first of these bytes, unless memory ran out
 abbrev pub IsFaultOf : List ℕ → ClassFault → Type 0
 IsFaultOf bytes (At kind at) = IsFirstFault bytes kind at
-IsFaultOf bytes other = Unit {0}
+IsFaultOf bytes NoMemory = Unit {0}
 
 -- FOR PRIVATE FUNCTIONS
 
@@ -111,7 +111,7 @@ abbrev pub IsMethodFault : List (Option Placed) → Method → ClassFault → Ty
 IsMethodFault pool method (At kind at) = HasMethodAtFault pool method kind at
 IsMethodFault pool method NoMemory = Unit {0}
 
--- so is that of the first of these methods that has a fault
+-- this is the fault of the first of these methods whose code has one, unless memory ran out
 abbrev pub AreAtFault : List (Option Placed) → List Method → ClassFault → Type 0
 AreAtFault pool methods (At kind at) = HasCodeAtFault pool methods kind at
 AreAtFault pool methods NoMemory = Unit {0}

@@ -5,3 +5,4 @@ pub mod Reading
 pub mod Programs
 pub mod Parts
 pub mod Faults
+pub mod Views

@@ -14,7 +14,7 @@ use Rattle.ms_program.specs.declared.body.Body.{Body}
 use Rattle.ms_program.specs.declared.file.FileFault.{FileFault}
 use Rattle.ms_program.specs.Files.{File, decodable, instructions_of}
 
--- what a code does that is decoded, foreign or at fault
+-- the body of a code that is decoded, none of a foreign one, or the fault
 abbrev pub code_read : Code → Result (DecodedCode × Place) Trouble → Result (Option Body) ClassFault
 code_read code (Ok x) = Ok (Some (record { max_stack = code.max_stack; max_locals = code.max_locals; code = x.0 }))
 code_read code (Err troubles.Foreign) = Ok None
@@ -39,7 +39,7 @@ with_bodies class = and_then (bodies_read class.pool class.methods) (λ bodies. 
 unfoldable pub file_read : List ℕ → Result File ClassFault
 file_read bytes = and_then (class_file.read (beginning bytes)) (λ x. with_bodies x.0)
 
--- the first fault that a file has
+-- the fault that was read, if one was
 abbrev pub fault_in : Result File ClassFault → Option FileFault
 fault_in (Ok file) = None
 fault_in (Err (faults.At kind at)) = Some (record { kind = kind; at = at })

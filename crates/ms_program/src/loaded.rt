@@ -1,19 +1,24 @@
-ghost use Rattle.std.specs.Prelude.{◌≡◌, ◌<◌, ◌^◌, IfErr, IfOk, IfSome, length, map, option_map, slice_get};
+ghost use Rattle.std.specs.Prelude.{◌≡◌, ◌<◌, ◌^◌, IfErr, IfOk, IfSome, Some, length, map, option_and_then, option_map, slice_get};
 ghost use Rattle.std.specs.Option.{option_copied};
 ghost use Rattle.ms_classfile.specs.ClassFile.{field_key, method_key};
 ghost use Rattle.ms_classfile.specs.ClassLaws.{AreDistinct};
 ghost use Rattle.ms_classfile.specs.ClassViews.{class_view, field_view, method_view};
-ghost use Rattle.ms_pool.specs.ByNumber.{places_of};
+ghost use Rattle.ms_words.specs.Throwables.{thrown_named};
+ghost use Rattle.ms_pool.specs.ByNumber.{class_name, integer, member};
+ghost use Rattle.ms_pool.specs.Found.{member_view};
+ghost use Rattle.ms_program.specs.Views.{constant_named, name_of, named_by};
 ghost use Rattle.ms_program.specs.Files.{IsFaultOf, IsFile};
-ghost use Rattle.ms_program.specs.Parts.{AreParts};
-ghost use Rattle.ms_program.specs.Programs.{HasMembers, IsClass, IsClassOf, body_in, initial_in, initial_of, initialiser_in, method_in};
+ghost use Rattle.ms_program.specs.Parts.{AreParts, HasClass, IsOnlyClassOf};
+ghost use Rattle.ms_program.specs.Programs.{HasMembers, IsClass, IsClassOf, body_in, static_in, static_of, initialiser_in, initialiser_method, method_in};
 
 use crate::body::{Bodies, Body};
 use crate::file::{File, read_file};
+use crate::laws::files_are_read;
 use crate::names::{Names, names_of};
-use crate::view::Initialiser;
+use crate::view::{Initialiser, Named};
 use ms_classfile::{Class, ClassFault, FieldRow, members_are_distinct, pools_lie_in_their_file};
-use ms_pool::PoolIndex;
+use ms_pool::{Member, PoolIndex};
+use ms_words::{NoMemory, Thrown, thrown_named};
 use std::alloc::{AllocError, Global};
 use std::marker::Model;
 
@@ -24,26 +29,26 @@ pub(crate) struct Loaded {
     pool: PoolIndex,
     name: Vec<u8>,
     fields: Names,
-    initials: Vec<Option<i32>>,
+    statics: Vec<Option<i32>>,
     methods: Names,
     bodies: Bodies,
 }
 
 impl Model for Loaded {
     ghost use Rattle.ms_pool.specs.ByNumber.{entries_in};
-    ghost use Rattle.ms_program.specs.Parts.{AreParts};
+    ghost use Rattle.ms_program.specs.Parts.{AreParts, HasClass, IsOnlyClassOf};
     ghost use Rattle.ms_program.specs.Programs.{Class, IsClass, class_with};
 
     ghost Value = { Class };
 
-    ghost view = { λ class. class_with class.file.items (entries_in class.file.items class.pool) class.name.items class.fields class.initials.items class.methods class.bodies };
+    ghost view = { λ class. class_with class.file.items (entries_in class.file.items class.pool) class.name.items class.fields class.statics.items class.methods class.bodies };
 
-    ghost invariant = { λ class. IsClass (class_with class.file.items (entries_in class.file.items class.pool) class.name.items class.fields class.initials.items class.methods class.bodies) };
+    ghost invariant = { λ class. IsClass (class_with class.file.items (entries_in class.file.items class.pool) class.name.items class.fields class.statics.items class.methods class.bodies) };
 }
 
-/// The int that a field has at first, where it is static.
-fn initial_of(row: &FieldRow<'_>) -> Option<i32>
-    ensures { result ≡ initial_of (field_view row.now) }
+/// The int that a field has at first, or 0 where it is of another type, where it is static.
+fn static_of(row: &FieldRow<'_>) -> Option<i32>
+    ensures { result ≡ static_of (field_view row.now) }
 {
     if row.access & 0x0008 == 0x0008 {
         Some(row.initial)
@@ -52,15 +57,15 @@ fn initial_of(row: &FieldRow<'_>) -> Option<i32>
     }
 }
 
-/// The ints that fields have at first, where they are static.
-fn initials(alloc: Global, rows: &[FieldRow<'_>]) -> Result<Vec<Option<i32>>, AllocError>
-    ensures { IfOk result (λ initials. initials.items ≡ map (λ row. initial_of (field_view row)) rows.now) }
+/// The same of fields.
+fn statics(alloc: Global, rows: &[FieldRow<'_>]) -> Result<Vec<Option<i32>>, AllocError>
+    ensures { IfOk result (λ statics. statics.items ≡ map (λ row. static_of (field_view row)) rows.now) }
 {
-    let mut initials = Vec::new(alloc);
+    let mut statics = Vec::new(alloc);
     for row in rows {
-        initials.push(initial_of(row))?;
+        statics.push(static_of(row))?;
     }
-    Ok(initials)
+    Ok(statics)
 }
 
 /// A class without its file.
@@ -76,7 +81,7 @@ struct Parts {
 struct Members {
     name: Vec<u8>,
     fields: Names,
-    initials: Vec<Option<i32>>,
+    statics: Vec<Option<i32>>,
     methods: Names,
 }
 
@@ -84,16 +89,16 @@ struct Members {
 fn members_of(alloc: Global, class: &Class<'_>) -> Result<Members, AllocError>
     requires fields { AreDistinct (map (λ row. field_key (field_view row)) class.now.fields) }
     requires methods { AreDistinct (map (λ row. method_key (method_view row)) class.now.methods) }
-    ensures { IfOk result (λ members. HasMembers (class_view class.now) members.name.items members.fields members.initials.items members.methods) }
+    ensures { IfOk result (λ members. HasMembers (class_view class.now) members.name.items members.fields members.statics.items members.methods) }
 {
     let name = Vec::from_slice(alloc, class.name)?;
     let fields = names_of(alloc, class.fields.rows())?;
-    let initials = initials(alloc, class.fields.rows())?;
+    let statics = statics(alloc, class.fields.rows())?;
     let methods = names_of(alloc, class.methods.rows())?;
     Ok(Members {
         name,
         fields,
-        initials,
+        statics,
         methods,
     })
 }
@@ -128,7 +133,7 @@ impl Loaded {
         let Members {
             name,
             fields,
-            initials,
+            statics,
             methods,
         } = members;
         Ok(Loaded {
@@ -136,14 +141,35 @@ impl Loaded {
             pool,
             name,
             fields,
-            initials,
+            statics,
             methods,
             bodies,
         })
     }
 }
 
+/// The class of a file of these bytes, which are one.
+fn again(alloc: Global, bytes: &[u8]) -> Result<Loaded, NoMemory>
+    requires { HasClass bytes.now }
+    ensures { IfOk result (IsOnlyClassOf bytes.now) }
+{
+    files_are_read();
+    let bytes = Vec::from_slice(alloc, bytes)?;
+    match Loaded::load(alloc, bytes) {
+        Ok(class) => Ok(class),
+        Err(ClassFault::At { .. }) => unreachable!(),
+        Err(ClassFault::NoMemory) => Err(AllocError),
+    }
+}
+
 impl Loaded {
+    /// The same class once more, read from its file.
+    pub(crate) fn copy(&self, alloc: Global) -> Result<Loaded, NoMemory>
+        ensures { IfOk result (λ copy. copy ≡ self.now) }
+    {
+        again(alloc, self.file.as_slice())
+    }
+
     /// The name.
     pub(crate) fn name(&self) -> &[u8]
         ensures { result.now ≡ self.now.name }
@@ -180,8 +206,10 @@ impl Loaded {
     }
 
     /// The number of the method of this name and descriptor, where there is one that isn't foreign.
+    #[tactic(auto, using(crate::proofs::Members::named_there))]
     pub(crate) fn method(&self, name: &[u8], desc: &[u8]) -> Option<usize>
         ensures method { result ≡ method_in self.now name.now desc.now }
+        ensures key { IfSome result (λ method. slice_get self.now.methods method ≡ Some (name.now, desc.now)) }
         ensures few { IfSome result (λ method. method < 2 ^ 16) }
     {
         let method = self.methods.find(name, desc)?;
@@ -189,12 +217,12 @@ impl Loaded {
         Some(method)
     }
 
-    /// What the field of this name and descriptor has at first, where there is one that is static.
+    /// The same of the field of this name and descriptor, where there is one that is static.
     pub(crate) fn initial(&self, name: &[u8], desc: &[u8]) -> Option<i32>
-        ensures { result ≡ initial_in self.now name.now desc.now }
+        ensures { result ≡ static_in self.now name.now desc.now }
     {
         let field = self.fields.find(name, desc)?;
-        *self.initials.get(field)?
+        *self.statics.get(field)?
     }
 
     /// Whether there is an initialiser, and whether that is foreign.
@@ -208,5 +236,55 @@ impl Loaded {
             },
             None => Initialiser::Absent,
         }
+    }
+
+    /// The number of the initialiser, where there is one that isn't foreign.
+    pub(crate) fn initialiser_method(&self) -> Option<u16>
+        ensures { result ≡ initialiser_method self.now }
+    {
+        let method = self.method(b"<clinit>", b"()V")?;
+        Some(method as u16)
+    }
+
+    /// The member of a number of the pool, where it refers to one.
+    pub(crate) fn member(&self, i: u16) -> Option<Member<'_>>
+        ensures { option_map member_view result ≡ member self.now.pool i }
+    {
+        self.pool.member(self.file.as_slice(), i)
+    }
+
+    /// The int or the text of a number of the pool.
+    fn constant(&self, i: u16) -> Option<Named<'_>>
+        ensures { option_map name_of result ≡ constant_named self.now.pool i (integer self.now.pool i) }
+    {
+        match self.pool.integer(self.file.as_slice(), i) {
+            Some(word) => Some(Named::Word(word)),
+            None => Some(Named::Text(self.pool.text(self.file.as_slice(), i)?)),
+        }
+    }
+
+    /// The throwable of a number of the pool.
+    fn throwable(&self, i: u16) -> Option<Thrown>
+        ensures { result ≡ option_and_then thrown_named (class_name self.now.pool i) }
+    {
+        thrown_named(self.pool.class_name(self.file.as_slice(), i)?)
+    }
+
+    /// What a number of the pool names behind this opcode.
+    pub(crate) fn named(&self, op: u8, i: u16) -> Option<Named<'_>>
+        ensures { option_map name_of result ≡ named_by self.now.pool op i }
+    {
+        if op == 18 || op == 19 {
+            return self.constant(i);
+        }
+        if op == 187 {
+            return Some(Named::Throwable(self.throwable(i)?));
+        }
+        let member = self.member(i)?;
+        Some(Named::Member {
+            class: member.class,
+            name: member.name,
+            desc: member.desc,
+        })
     }
 }

@@ -1,16 +1,23 @@
-ghost use Rattle.std.specs.Prelude.{◌≡◌, ◌<◌, ◌≤◌, IfErr, IfOk, IfSome, IsSome, MatchResult, None, Some, length, option_and_then, option_map, slice_get, false, true};
-ghost use Rattle.std.specs.Option.{option_copied, option_map_or};
+ghost use Rattle.std.specs.Prelude.{◌≡◌, ◌<◌, ◌≤◌, IfErr, IfOk, IfSome, IsSome, MatchResult, None, Some, is_some, length, option_and_then, option_map, slice_get, false, true};
+ghost use Rattle.std.specs.Option.{option_copied};
 ghost use Rattle.ms_program.specs.declared.program.AddFault.TheVariants.{NoMemory};
 ghost use Rattle.ms_program.specs.Faults.{AddFails, IsLoadFault, RefusesName, ReplaceFails};
-ghost use Rattle.ms_program.specs.Programs.{Adds, IsClassOf, Replaces, body_of, class_named, empty_program, is_entry, kept_entry, key_of, method_of, with_class, with_other};
+ghost use Rattle.ms_program.specs.Programs.{Adds, IsClass, IsClassOf, IsProgram, Replaces, body_of, body_seen, class_named, known_body, can_be_entry, empty_program, kept_entry, key_of, method_id, method_of, with_class, with_other};
+ghost use Rattle.ms_program.specs.Views.{class_at, entry_part_at, instr_of, is_member_op, numbered, numbered_by_name, reference_of, seen, view, whose};
+ghost use Rattle.ms_pool.specs.Found.{member_view};
+ghost use Rattle.ms_words.specs.declared.item.Item as Item;
 
+use crate::body::Body;
 use crate::loaded::Loaded;
-use crate::method::MethodId;
+use crate::method::{MethodBody, MethodId};
+use crate::view::{View, pool_index};
 use ms_classfile::ClassFault;
-use ms_pool::ClassKind;
-use ms_words::{NoMemory, entry_part};
+use ms_code::Instr;
+use ms_pool::{ClassKind, Member};
+use ms_words::{EntryPart, Item, NoMemory, entry_part};
 use std::alloc::{AllocFailed, Global};
 use std::marker::Model;
+use thiserror::Error;
 
 /// The most classes of a program.
 const MOST_CLASSES: usize = 64;
@@ -34,17 +41,22 @@ impl Model for Program {
 
 /// Why a class wasn't added or replaced. What comes first counts: the fault of the file, then the name, then
 /// the number of classes.
-#[derive(Clone, Copy, PartialEq, Eq)]
+#[derive(Clone, Copy, Debug, PartialEq, Eq, Drop, Error)]
 pub enum AddFault {
     /// The file has a fault: the first, as `read_file` says which that is.
+    #[error("no class file: {kind:?} at {at}")]
     Class { kind: ClassKind, at: u64 },
     /// A class of this name is there.
+    #[error("a class of this name is there")]
     Known,
     /// No class of this name is there.
+    #[error("no class of this name is there")]
     Unknown,
     /// 64 classes are there.
+    #[error("64 classes are there")]
     Classes,
     /// Memory ran out.
+    #[error("memory ran out")]
     NoMemory,
 }
 
@@ -57,10 +69,11 @@ impl From<AllocFailed<Loaded>> for AddFault {
 }
 
 /// Why a method isn't an entry.
-#[derive(Clone, Copy, PartialEq, Eq)]
+#[derive(Clone, Copy, Debug, PartialEq, Eq, Drop, Error)]
 pub enum EntryRefusal {
     /// It has more than eight parameters, one of another type than an int, or a result that is neither an int
     /// nor void; or its name is `<clinit>`.
+    #[error("no entry")]
     Kinds,
 }
 
@@ -74,6 +87,18 @@ fn load(alloc: Global, bytes: Vec<u8>) -> Result<Loaded, AddFault>
         Err(ClassFault::At { kind, at }) => Err(AddFault::Class { kind, at }),
         Err(ClassFault::NoMemory) => Err(AddFault::NoMemory),
     }
+}
+
+/// These classes once more.
+fn copies(alloc: Global, classes: &[Loaded]) -> Result<Vec<Loaded>, NoMemory>
+    ensures { IfOk result (λ copies. copies.items ≡ classes.now) }
+{
+    let mut copies = Vec::new(alloc);
+    for class in classes {
+        let copy = class.copy(alloc)?;
+        copies.push(copy)?;
+    }
+    Ok(copies)
 }
 
 impl Program {
@@ -114,7 +139,8 @@ impl Program {
 
     /// Adds a class, under the number behind those that are there.
     fn append(&mut self, class: Loaded) -> Result<u16, AddFault>
-        requires { length self.old.classes < 64 }
+        requires few { length self.old.classes < 64 }
+        requires class { IsClass class }
         ensures { MatchResult result
             (λ number. (number ≡ length self.old.classes) × (self.new ≡ with_class self.old class))
             (λ fault. (fault ≡ AddFault.NoMemory) × (self.new ≡ self.old)) }
@@ -122,6 +148,17 @@ impl Program {
         let number = self.classes.len() as u16;
         self.classes.push(class)?;
         Ok(number)
+    }
+
+    /// The same program once more. Each class is read from its file again.
+    pub fn copy(&self, alloc: Global) -> Result<Program, NoMemory>
+        ensures { IfOk result (λ copy. copy ≡ self.now) }
+    {
+        let classes = copies(alloc, self.classes.as_slice())?;
+        Ok(Program {
+            classes,
+            entry: self.entry,
+        })
     }
 
     /// Puts the class of a file of these bytes in the place of the class of its name, under its number. An
@@ -142,7 +179,8 @@ impl Program {
 
     /// Puts a class in the place of another.
     fn put(&mut self, number: u16, class: Loaded)
-        requires { number < length self.old.classes }
+        requires within { number < length self.old.classes }
+        requires class { IsClass class }
         ensures { self.new ≡ with_other self.old number class }
     {
         let entry = self.kept_entry(number, &class);
@@ -168,14 +206,19 @@ impl Program {
 
     /// How many classes there are, at most 64.
     pub fn classes(&self) -> u16
-        ensures { result ≡ length self.now.classes }
+        ensures count { result ≡ length self.now.classes }
+        // At most 64, each what its file says; and the entry can be one.
+        ensures program { IsProgram self.now }
     {
         self.classes.len() as u16
     }
 
     /// The entry, where one is set.
     pub fn entry(&self) -> Option<MethodId>
-        ensures { result ≡ self.now.entry }
+        ensures entry { result ≡ self.now.entry }
+        // It is a method that isn't foreign and can be an entry.
+        ensures known { IfSome result (λ id. IsSome (body_of self.now id)) }
+        ensures enters { IfSome result (λ id. option_map can_be_entry (key_of self.now id) ≡ Some true) }
     {
         self.entry
     }
@@ -198,7 +241,8 @@ impl Program {
 
     /// The number of the class of this name. It takes no memory.
     pub fn class_named(&self, name: &[u8]) -> Option<u16>
-        ensures { result ≡ class_named self.now name.now }
+        ensures number { result ≡ class_named self.now name.now }
+        ensures within { IfSome result (λ number. number < length self.now.classes) }
     {
         let place = self.place(name)?;
         Some(place as u16)
@@ -207,7 +251,10 @@ impl Program {
     /// The method of this name and descriptor in the class of this number, where there is one that isn't
     /// foreign. It takes no memory.
     pub fn method(&self, class: u16, name: &[u8], desc: &[u8]) -> Option<MethodId>
-        ensures { result ≡ method_of self.now class name.now desc.now }
+        ensures method { result ≡ method_of self.now class name.now desc.now }
+        // It is known, and has this name and descriptor.
+        ensures known { IfSome result (λ id. IsSome (body_of self.now id)) }
+        ensures key { IfSome result (λ id. key_of self.now id ≡ Some (name.now, desc.now)) }
     {
         let method = self.class(class)?.method(name, desc)?;
         Some(MethodId {
@@ -219,7 +266,7 @@ impl Program {
     /// The name of the class of this number, with slashes.
     pub fn class_name(&self, class: u16) -> &[u8]
         requires { class < length self.now.classes }
-        ensures { IfSome (slice_get self.now.classes class) (λ class. result.now ≡ class.name) }
+        ensures { option_map (λ class. class.name) (slice_get self.now.classes class) ≡ Some result.now }
     {
         self.classes[usize::from(class)].name()
     }
@@ -227,15 +274,35 @@ impl Program {
     /// The bytes of the file of the class of this number.
     pub fn file(&self, class: u16) -> &[u8]
         requires { class < length self.now.classes }
-        ensures { IfSome (slice_get self.now.classes class) (λ class. result.now ≡ class.file) }
+        ensures { option_map (λ class. class.file) (slice_get self.now.classes class) ≡ Some result.now }
     {
         self.classes[usize::from(class)].file()
+    }
+
+    /// A method of a class, by their numbers: none exactly where it is foreign.
+    pub fn method_body(&self, class: u16, method: u16) -> Option<MethodBody<'_>>
+        requires class { class < length self.now.classes }
+        requires method { IfSome (slice_get self.now.classes class) (λ class. method < length class.methods) }
+        ensures body { option_map body_seen result ≡ known_body self.now (method_id class method) }
+        ensures foreign { is_some result ≡ is_some (body_of self.now (method_id class method)) }
+    {
+        let body = self.body(class, method)?;
+        let Some((name, desc)) = self.key(MethodId { class, method }) else {
+            unreachable!()
+        };
+        Some(MethodBody {
+            name,
+            desc,
+            max_stack: body.max_stack,
+            max_locals: body.max_locals,
+            code: &body.code,
+        })
     }
 
     /// How many methods the class of this number has, foreign ones too.
     pub fn methods(&self, class: u16) -> u16
         requires { class < length self.now.classes }
-        ensures { IfSome (slice_get self.now.classes class) (λ class. result ≡ length class.methods) }
+        ensures { option_map (λ class. length class.methods) (slice_get self.now.classes class) ≡ Some result }
     {
         self.classes[usize::from(class)].methods()
     }
@@ -244,8 +311,8 @@ impl Program {
     pub fn set_entry(&mut self, id: MethodId) -> Result<(), EntryRefusal>
         requires { IsSome (body_of self.old id) }
         ensures { MatchResult result
-            (λ _. IfSome (key_of self.old id) (λ key. is_entry key ≡ true) × (self.new ≡ record self.old { entry = Some id }))
-            (λ _. IfSome (key_of self.old id) (λ key. is_entry key ≡ false) × (self.new ≡ self.old)) }
+            (λ _. (option_map can_be_entry (key_of self.old id) ≡ Some true) × (self.new ≡ record self.old { entry = Some id }))
+            (λ _. (option_map can_be_entry (key_of self.old id) ≡ Some false) × (self.new ≡ self.old)) }
     {
         if !self.can_be_entry(id) {
             return Err(EntryRefusal::Kinds);
@@ -254,27 +321,125 @@ impl Program {
         Ok(())
     }
 
+    /// What a method does, where it isn't foreign.
+    pub(crate) fn body(&self, class: u16, method: u16) -> Option<&Body>
+        ensures { option_copied result ≡ body_of self.now (method_id class method) }
+    {
+        self.class(class)?.body(method)
+    }
+
+    /// The instruction of an item.
+    pub(crate) fn instr(&self, item: Item) -> Option<&Instr>
+        ensures { option_copied result ≡ instr_of self.now item }
+    {
+        match item {
+            Item::Entry => None,
+            Item::At {
+                class,
+                method,
+                offset,
+            } => self.body(class, method)?.code.at(offset),
+        }
+    }
+
+    /// The class of an item that is an instruction.
+    pub(crate) fn class_of(&self, item: Item) -> Option<&Loaded>
+        ensures { option_copied result ≡ class_at self.now item }
+    {
+        match item {
+            Item::Entry => None,
+            Item::At { class, .. } => self.class(class),
+        }
+    }
+
+    /// The member that an item names.
+    pub(crate) fn reference(&self, item: Item) -> Option<Member<'_>>
+        ensures { option_map member_view result ≡ reference_of self.now item }
+    {
+        let class = self.class_of(item)?;
+        let instr = self.instr(item)?;
+        if !is_member_op(instr.op) {
+            return None;
+        }
+        class.member(pool_index(&instr.operand)?)
+    }
+
+    /// The class of this name, with its number.
+    pub(crate) fn class_by_name(&self, name: &[u8]) -> Option<(u16, &Loaded)>
+        ensures { option_map seen result ≡ numbered_by_name self.now name.now }
+    {
+        let number = self.class_named(name)?;
+        Some((number, self.class(number)?))
+    }
+
+    /// The class of the entry, with its number.
+    pub(crate) fn class_of_entry(&self) -> Option<Option<(u16, &Loaded)>>
+        ensures { option_map (λ class. option_map seen class) result ≡ whose self.now Item.Entry }
+    {
+        let id = self.entry?;
+        Some(self.numbered(id.class))
+    }
+
+    /// The class of this number, with it.
+    fn numbered(&self, number: u16) -> Option<(u16, &Loaded)>
+        ensures { option_map seen result ≡ numbered self.now number }
+    {
+        Some((number, self.class(number)?))
+    }
+
+    /// What the entry takes and returns.
+    pub(crate) fn entry_part(&self) -> Option<EntryPart>
+        ensures { result ≡ entry_part_at self.now Item.Entry }
+    {
+        let (_, desc) = self.key(self.entry?)?;
+        entry_part(desc)
+    }
+
+    /// The view of an item, lent: none exactly where the item is no instruction of a method that isn't
+    /// foreign, or is the entry and none is set. It takes no memory.
+    pub fn view(&self, item: Item) -> Option<View<'_>>
+        ensures { result ≡ view self.now item }
+    {
+        let there = match item {
+            Item::Entry => self.entry.is_some(),
+            Item::At { .. } => self.instr(item).is_some(),
+        };
+        if !there {
+            return None;
+        }
+        Some(View::new(self, item))
+    }
+
     /// The name and the descriptor of a method.
     fn key(&self, id: MethodId) -> Option<(&[u8], &[u8])>
-        ensures { option_map (λ key. (key.0.now, key.1.now)) result ≡ key_of self.now id }
+        ensures key { option_map (λ key. (key.0.now, key.1.now)) result ≡ key_of self.now id }
+        ensures there { IsSome (body_of self.now id) → IsSome (key_of self.now id) }
     {
-        self.class(id.class)?.key(id.method)
+        self.classes.get(usize::from(id.class))?.key(id.method)
     }
 
     /// Whether a method can be an entry, by its name and descriptor.
     fn can_be_entry(&self, id: MethodId) -> bool
-        ensures { result ≡ option_map_or is_entry (key_of self.now id) false }
+        requires { IsSome (body_of self.now id) }
+        ensures { option_map can_be_entry (key_of self.now id) ≡ Some result }
     {
-        match self.key(id) {
-            Some((name, desc)) => is_entry(name, desc),
-            None => false,
-        }
+        let Some((name, desc)) = self.key(id) else {
+            unreachable!()
+        };
+        can_enter(name, desc)
     }
 }
 
+/// Whether an instruction names a member of a class.
+fn is_member_op(op: u8) -> bool
+    ensures { result ≡ is_member_op op }
+{
+    op == 178 || op == 179 || op == 184
+}
+
 /// Whether a method of this name and descriptor can be an entry.
-fn is_entry(name: &[u8], desc: &[u8]) -> bool
-    ensures { result ≡ is_entry (name.now, desc.now) }
+fn can_enter(name: &[u8], desc: &[u8]) -> bool
+    ensures { result ≡ can_be_entry (name.now, desc.now) }
 {
     entry_part(desc).is_some() && name != b"<clinit>".as_slice()
 }

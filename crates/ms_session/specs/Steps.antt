@@ -110,7 +110,7 @@ abbrev pub class_read : State → Option Method → Next
 class_read state None = replied state replies.NotBuilt
 class_read state (Some class) = class_among state class state.classes
 
--- the same, where a file has no fault
+-- the reply to the first fault of a file, or, where it has none, what `class_read` does
 abbrev pub file_next : State → Option FileFault → Option Method → Next
 file_next state (Some fault) class = replied state (fault_reply fault)
 file_next state None class = class_read state class

@@ -26,6 +26,6 @@ returns-clause-parts c =
     let file = c.in_ok-class.field-0 in
     let members = c.in_ok-members.members in
     let all : All (λ byte. byte < 256) c.args.bytes.now = all_from_bytes c.args.bytes.now (λ i. omega (arith, c.type_inv.bytes i)) in
-    is_class c.args.bytes.now c.into_index.result (file_view file) members.name.items members.fields members.initials.items members.methods c.in_ok-class.ensures.file c.in_ok-members.ensures
+    is_class c.args.bytes.now c.into_index.result (file_view file) members.name.items members.fields members.statics.items members.methods all c.in_ok-class.ensures.file c.in_ok-members.ensures
     c.into_index.ensures (c.pools_lie_in_their_file.ensures c.args.bytes.now (class_view file.class) all c.in_ok-class.ensures.file.0)
     (c.members_are_distinct.ensures.few c.args.bytes.now (class_view file.class) all c.in_ok-class.ensures.file.0)

@@ -6,5 +6,5 @@ use Rattle.ms_program.proofs.program.Program.append.Goals as goal
 pub invariant_of-self-2 : goal.invariant_of-self-2
 invariant_of-self-2 c =
     let P : Program = record { classes = c.self.inside.classes.items; entry = c.self.inside.entry } in
-    let few : length P.classes < 64 = subst (λ (p : Program). length p.classes < 64) (sym c.self.view_is) c.requires in
-    subst (λ (classes : List Class). IsProgram (record { classes = classes; entry = P.entry })) (sym c.in_ok-push.ensures.items) (appended P c.args.class c.self.invariant few)
+    let few : length P.classes < 64 = subst (λ (p : Program). length p.classes < 64) (sym c.self.view_is) c.requires.few in
+    subst (λ (classes : List Class). IsProgram (record { classes = classes; entry = P.entry })) (sym c.in_ok-push.ensures.items) (appended P c.args.class c.self.invariant c.requires.class few)
