@@ -79,7 +79,7 @@ if_known class method = option_map (λ (body : Body). method) (body_in class met
 abbrev pub method_in : Class → (name desc : List ℕ) → Option ℕ
 method_in class name desc = option_and_then (if_known class) (place_named name desc class.methods)
 
--- the same of the field of this name and descriptor, where there is one that is static
+-- the int that the static field of this name and descriptor has at first, or 0 where it isn't of an int's type
 abbrev pub static_in : Class → (name desc : List ℕ) → Option ℤ
 static_in class name desc = option_and_then (λ field. option_and_then (λ (initial : Option ℤ). initial) (slice_get class.statics field)) (place_named name desc class.fields)
 
@@ -88,7 +88,7 @@ static_in class name desc = option_and_then (λ field. option_and_then (λ (init
 abbrev pub initialiser_place : Class → Option ℕ
 initialiser_place class = place_named (codes "<clinit>") (codes "()V") class.methods
 
--- whether there is an initialiser that isn't foreign
+-- whether an initialiser that is there is foreign
 abbrev pub state_of : Option Body → Initialiser
 state_of None = Foreign
 state_of (Some body) = Present

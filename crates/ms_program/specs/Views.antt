@@ -55,7 +55,8 @@ pub record View : Type 0 where
   pub targets : List Item
   -- the handlers that cover it, in the order of the table
   pub handlers : List CatchPart
-  -- what a member instruction names: whether its class is there, whether it is, and what a field has at first
+  -- what is known of the static member that it names: whether its class is there, whether the member is there and not
+  -- foreign, and the int that a field has at first
   pub member : Option MemberPart
   -- whether the class of the member, or of the entry, has an initialiser
   pub initialiser : Option Initialiser
@@ -125,10 +126,6 @@ named_in class instr = option_and_then (named_by class.pool instr.op) (pool_inde
 
 -- WHERE IT GOES
 
--- an item of the same method
-abbrev pub beside : (class method offset : ℕ) → Item
-beside class method offset = At class method offset
-
 -- the instruction behind an item
 abbrev pub successor_of : Program → Item → Option Item
 successor_of P Entry = None
@@ -154,13 +151,13 @@ handlers_at (At class method offset) body = map (catch_part class method) (filte
 
 -- MEMBERS
 
--- whether an instruction names a member of a class: `getstatic`, `putstatic` and `invokestatic`
-abbrev pub is_member_op : ℕ → Bool
-is_member_op op = op == 178 || (op == 179 || op == 184)
+-- whether an instruction names a static member: `getstatic`, `putstatic` and `invokestatic`
+abbrev pub is_static_member_op : ℕ → Bool
+is_static_member_op op = op == 178 || (op == 179 || op == 184)
 
--- the member that an instruction of a class names, where it is such an instruction
+-- the static member that an instruction of a class names
 abbrev pub reference_in : Class → Instr → Option Reference
-reference_in class instr = if is_member_op instr.op then option_and_then (member class.pool) (pool_index instr.operand) else None
+reference_in class instr = if is_static_member_op instr.op then option_and_then (member class.pool) (pool_index instr.operand) else None
 
 -- the first instruction of a method
 abbrev pub first_of : (class method : ℕ) → Item
@@ -182,7 +179,7 @@ numbered P number = option_map (λ (class : Class). (number, class)) (slice_get 
 abbrev pub numbered_by_name : Program → List ℕ → Option Numbered
 numbered_by_name P name = option_and_then (numbered P) (class_named P name)
 
--- the member that an item names
+-- the static member that an item names
 abbrev pub reference_of : Program → Item → Option Reference
 reference_of P item = option_and_then (λ class. option_and_then (reference_in class) (instr_of P item)) (class_at P item)
 
@@ -205,17 +202,17 @@ member_part op reference (Some there) = member_there there.1 op reference
 abbrev pub op_of : Program → Item → Option ℕ
 op_of P item = option_map (λ (instr : Instr). instr.op) (instr_of P item)
 
--- what a member instruction names
+-- what is known of the static member that an item names
 abbrev pub member_of : Program → Item → Option MemberPart
 member_of P item = option_and_then (λ op. option_map (λ (reference : Reference). member_part op reference (numbered_by_name P reference.class)) (reference_of P item)) (op_of P item)
 
--- The class whose initialiser counts, if there is such a class: that of the entry, or that of the member, which may be
--- absent.
+-- The class whose initialiser counts, that of the entry or of the static member: none where the item speaks of no class,
+-- and no class where it names one that is absent.
 abbrev pub whose : Program → Item → Option (Option Numbered)
 whose P Entry = option_map (λ (id : MethodId). numbered P id.class) P.entry
 whose P (At class method offset) = option_map (λ (reference : Reference). numbered_by_name P reference.class) (reference_of P (At class method offset))
 
--- the state of its initialiser: an absent class has none
+-- the state of its initialiser: that of an absent class is `Absent`
 abbrev pub initialiser_there : Option Numbered → Initialiser
 initialiser_there None = initialisers.Absent
 initialiser_there (Some there) = initialiser_in there.1

@@ -217,7 +217,7 @@ impl Loaded {
         Some(method)
     }
 
-    /// The same of the field of this name and descriptor, where there is one that is static.
+    /// What the static field of this name and descriptor has at first, or 0 where it is of another type.
     pub(crate) fn initial(&self, name: &[u8], desc: &[u8]) -> Option<i32>
         ensures { result ≡ static_in self.now name.now desc.now }
     {

@@ -3,7 +3,7 @@ ghost use Rattle.std.specs.Option.{option_copied};
 ghost use Rattle.ms_program.specs.declared.program.AddFault.TheVariants.{NoMemory};
 ghost use Rattle.ms_program.specs.Faults.{AddFails, IsLoadFault, RefusesName, ReplaceFails};
 ghost use Rattle.ms_program.specs.Programs.{Adds, IsClass, IsClassOf, IsProgram, Replaces, body_of, body_seen, class_named, known_body, can_be_entry, empty_program, kept_entry, key_of, method_id, method_of, with_class, with_other};
-ghost use Rattle.ms_program.specs.Views.{class_at, entry_part_at, instr_of, is_member_op, numbered, numbered_by_name, reference_of, seen, view, whose};
+ghost use Rattle.ms_program.specs.Views.{class_at, entry_part_at, instr_of, is_static_member_op, numbered, numbered_by_name, reference_of, seen, view, whose};
 ghost use Rattle.ms_pool.specs.Found.{member_view};
 ghost use Rattle.ms_words.specs.declared.item.Item as Item;
 
@@ -218,6 +218,7 @@ impl Program {
         ensures entry { result ≡ self.now.entry }
         // It is a method that isn't foreign and can be an entry.
         ensures known { IfSome result (λ id. IsSome (body_of self.now id)) }
+        ensures within { IfSome result (λ id. id.class < length self.now.classes) }
         ensures enters { IfSome result (λ id. option_map can_be_entry (key_of self.now id) ≡ Some true) }
     {
         self.entry
@@ -254,6 +255,7 @@ impl Program {
         ensures method { result ≡ method_of self.now class name.now desc.now }
         // It is known, and has this name and descriptor.
         ensures known { IfSome result (λ id. IsSome (body_of self.now id)) }
+        ensures within { IfSome result (λ id. id.class < length self.now.classes) }
         ensures key { IfSome result (λ id. key_of self.now id ≡ Some (name.now, desc.now)) }
     {
         let method = self.class(class)?.method(name, desc)?;
@@ -352,13 +354,13 @@ impl Program {
         }
     }
 
-    /// The member that an item names.
+    /// The static member that an item names.
     pub(crate) fn reference(&self, item: Item) -> Option<Member<'_>>
         ensures { option_map member_view result ≡ reference_of self.now item }
     {
         let class = self.class_of(item)?;
         let instr = self.instr(item)?;
-        if !is_member_op(instr.op) {
+        if !is_static_member_op(instr.op) {
             return None;
         }
         class.member(pool_index(&instr.operand)?)
@@ -430,9 +432,9 @@ impl Program {
     }
 }
 
-/// Whether an instruction names a member of a class.
-fn is_member_op(op: u8) -> bool
-    ensures { result ≡ is_member_op op }
+/// Whether an instruction names a static member.
+fn is_static_member_op(op: u8) -> bool
+    ensures { result ≡ is_static_member_op op }
 {
     op == 178 || op == 179 || op == 184
 }

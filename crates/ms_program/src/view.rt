@@ -173,7 +173,8 @@ impl<'a> View<'a> {
         self.program.class_of(self.item)?.named(instr.op, i)
     }
 
-    /// What is known of the member that `getstatic`, `putstatic` or `invokestatic` names.
+    /// What is known of the static member that `getstatic`, `putstatic` or `invokestatic` names. The number of
+    /// its class isn't part of the view: `Program::class_named` gives it for the name in `named`.
     pub fn member(&self) -> Option<MemberPart>
         ensures { result ≡ self.now.member }
     {
@@ -182,7 +183,8 @@ impl<'a> View<'a> {
         Some(member_part(op, reference, self.program.class_by_name(reference.class)))
     }
 
-    /// Whether the class of that member, or of the entry, has an initialiser. An absent class has none.
+    /// Whether the class of that member, or of the entry, has an initialiser. That of an absent class is
+    /// `Absent`.
     pub fn initialiser(&self) -> Option<Initialiser>
         ensures { result ≡ self.now.initialiser }
     {
