@@ -8,7 +8,7 @@ use Rattle.ms_program.specs.declared.body.Body.{Body}
 use Rattle.ms_program.specs.declared.method.MethodId.{MethodId}
 use Rattle.ms_program.specs.Names.{Key, place_named}
 use Rattle.ms_program.proofs.Members.{named_there}
-use Rattle.ms_program.specs.Programs.{CanEnter, Class, IsClass, IsProgram, Program, body_in, if_known, can_be_entry, kept_entry, key_of, method_id, method_in, same_in, with_class, with_other}
+use Rattle.ms_program.specs.Programs.{AreApart, CanEnter, Class, IsClass, IsProgram, Program, body_in, if_known, can_be_entry, kept_entry, key_of, method_id, method_in, same_in, with_class, with_other}
 
 -- A CLASS MORE
 
@@ -25,8 +25,9 @@ only : (class : Class) → IsClass class → All IsClass (class ∷ [])
 only class is zero d within = is
 only class is (suc k) d within = absurd (omega (arith, within))
 
-pub appended : (P : Program) (class : Class) → IsProgram P → IsClass class → length P.classes < 64 → IsProgram (with_class P class)
-appended P class is one few = record {
+pub appended : (P : Program) (class : Class) → IsProgram P → IsClass class → length P.classes < 64 → AreApart (P.classes ++ class ∷ []) → IsProgram (with_class P class)
+appended P class is one few apart = record {
+  apart = apart;
   few = omega (arith, few, length-append P.classes (class ∷ []));
   each = All-append IsClass P.classes (class ∷ []) is.each (only class one);
   enters = by_entry P.entry is.enters;
@@ -48,12 +49,12 @@ each_set classes class i all is k d within = by_test (k == i) refl
     by_test true same = subst IsClass (sym (ap (λ (n : ℕ). get_or (slice_set classes i class) n d) (eqb-true k i same) ∙ get_or-set_same classes i class d (omega (arith, short, eqb-true k i same)))) is
     by_test false other = subst IsClass (sym (get_or-set_other classes i k class d (eqb-false k i other))) (all k d short)
 
-get_set : (classes : List Class) (class : Class) (i : ℕ) → i < length classes → slice_get (slice_set classes i class) i ≡ Some class
+pub get_set : (classes : List Class) (class : Class) (i : ℕ) → i < length classes → slice_get (slice_set classes i class) i ≡ Some class
 get_set [] class i within = absurd (omega (arith, within))
 get_set (first ∷ classes) class zero within = refl
 get_set (first ∷ classes) class (suc i) within = get_set classes class i (omega (arith, within))
 
-get_other : (classes : List Class) (class : Class) (i j : ℕ) → j ≢ i → slice_get (slice_set classes i class) j ≡ slice_get classes j
+pub get_other : (classes : List Class) (class : Class) (i j : ℕ) → j ≢ i → slice_get (slice_set classes i class) j ≡ slice_get classes j
 get_other [] class i j other = refl
 get_other (first ∷ classes) class zero zero other = absurd (other refl)
 get_other (first ∷ classes) class zero (suc j) other = refl
@@ -76,8 +77,9 @@ found_enters class key method fits found = by_place (place_named key.0 key.1 cla
     by_place None is e = absurd (let f = e in cc)
     by_place (Some i) is e = by_body i (body_in class i) refl is e
 
-pub replaced : (P : Program) (number : ℕ) (class : Class) → IsProgram P → IsClass class → number < length P.classes → IsProgram (with_other P number class)
-replaced P number class is one within = record {
+pub replaced : (P : Program) (number : ℕ) (class : Class) → IsProgram P → IsClass class → number < length P.classes → AreApart (slice_set P.classes number class) → IsProgram (with_other P number class)
+replaced P number class is one within apart = record {
+  apart = apart;
   few = omega (arith, is.few, length-set P.classes number class);
   each = each_set P.classes class number is.each one;
   enters = by_entry P.entry is.enters;

@@ -5,3 +5,4 @@ pub mod Loading
 pub mod Entries
 pub mod Covering
 pub mod Keys
+pub mod Apart

@@ -149,11 +149,16 @@ can_be_entry key = is_some (entry_part_of key.1) && not (bytes_eq key.0 (codes "
 abbrev pub CanEnter : Option Class → ℕ → Type 0
 CanEnter class method = IsSome (option_and_then (λ (c : Class). body_in c method) class) × (option_map can_be_entry (option_and_then (λ (c : Class). slice_get c.methods method) class) ≡ Some true)
 
--- a program has at most 64 classes, each of which is what its file says, and its entry, if it has one, is a method that can
--- be an entry
+-- no two classes have the same name
+abbrev pub AreApart : List Class → Type 0
+AreApart classes = (i j : ℕ) (first second : Class) → slice_get classes i ≡ Some first → slice_get classes j ≡ Some second → first.name ≡ second.name → i ≡ j
+
+-- a program has at most 64 classes, each of which is what its file says and has a name of its own, and its entry, if it has
+-- one, is a method that can be an entry
 pub record IsProgram (P : Program) : Type 0 where
   pub few : length P.classes ≤ 64
   pub each : All IsClass P.classes
+  pub apart : AreApart P.classes
   pub enters : IfSome P.entry (λ id. CanEnter (slice_get P.classes id.class) id.method)
 
 -- CLASSES THAT COME

@@ -140,6 +140,7 @@ impl Program {
     /// Adds a class, under the number behind those that are there.
     fn append(&mut self, class: Loaded) -> Result<u16, AddFault>
         requires few { length self.old.classes < 64 }
+        requires new { class_named self.old class.name ≡ None }
         requires class { IsClass class }
         ensures { MatchResult result
             (λ number. (number ≡ length self.old.classes) × (self.new ≡ with_class self.old class))
@@ -180,6 +181,7 @@ impl Program {
     /// Puts a class in the place of another.
     fn put(&mut self, number: u16, class: Loaded)
         requires within { number < length self.old.classes }
+        requires named { class_named self.old class.name ≡ Some number }
         requires class { IsClass class }
         ensures { self.new ≡ with_other self.old number class }
     {
@@ -207,7 +209,7 @@ impl Program {
     /// How many classes there are, at most 64.
     pub fn classes(&self) -> u16
         ensures count { result ≡ length self.now.classes }
-        // At most 64, each what its file says; and the entry can be one.
+        // At most 64, each what its file says and of a name of its own; and the entry can be one.
         ensures program { IsProgram self.now }
     {
         self.classes.len() as u16
@@ -244,6 +246,7 @@ impl Program {
     pub fn class_named(&self, name: &[u8]) -> Option<u16>
         ensures number { result ≡ class_named self.now name.now }
         ensures within { IfSome result (λ number. number < length self.now.classes) }
+        ensures name { IfSome result (λ number. IfSome (slice_get self.now.classes number) (λ class. class.name ≡ name.now)) }
     {
         let place = self.place(name)?;
         Some(place as u16)
