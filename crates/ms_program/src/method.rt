@@ -1,6 +1,7 @@
 use ms_code::Decoded;
 
 /// A method of a program that isn't foreign, lent.
+#[derive(Drop)]
 pub struct MethodBody<'a> {
     /// The name.
     pub name: &'a [u8],

@@ -27,6 +27,7 @@ pub enum Initialiser {
 }
 
 /// What a number of the constant pool names.
+#[derive(Drop)]
 pub enum Named<'a> {
     /// An int.
     Word(i32),
@@ -63,6 +64,7 @@ pub struct CatchPart {
 }
 
 /// What one step of a run at an item may read of a program, lent.
+#[derive(Drop)]
 pub struct View<'a> {
     program: &'a Program,
     item: Item,
