@@ -2,7 +2,7 @@
 //! a method takes. The expected choices were worked out by hand: at a test that a parameter entered, 0
 //! where it falls through and 1 where it branches.
 
-use crate::running::check;
+use crate::running::{NOT_BUILT, check};
 use ms_classfile::read_thin;
 use ms_command::end_text;
 use ms_jvm::{path_of, run};
@@ -11,8 +11,6 @@ use std::alloc::{AllocError, Global};
 use std::process::Abort;
 use std::test::Fail;
 use tests_devices::{line_for, thin};
-
-const NOT_BUILT: &str = "refused 90 NotBuilt\n";
 
 /// That the path of these words to this depth, at most 256, has these choices and this end, and that the
 /// run has as many and the same end. The method has eight locals and a stack of four.

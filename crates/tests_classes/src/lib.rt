@@ -10,4 +10,6 @@ mod branches;
 #[cfg(test)]
 mod classes;
 #[cfg(test)]
+mod codes;
+#[cfg(test)]
 mod running;
