@@ -1,5 +1,5 @@
 -- What is read of an instruction lies behind where it was read from, and what is left ends where it ended.
-use Rattle.std.proofs.Common.{◌≡◌, ℕ, zero, suc, ◌+◌, ◌≤◌, List, [], ◌∷◌, ◌++◌, length, Bool, true, false, cond, ltb, Option, Some, None, Ok, Err, ℤ, pos, refl, subst, arith}
+use Rattle.std.proofs.Common.{◌≡◌, ℕ, zero, suc, ◌+◌, ◌-◌, ◌%◌, ◌≤◌, List, [], ◌∷◌, ◌++◌, length, Bool, true, false, cond, ltb, Option, Some, None, Ok, Err, ℤ, pos, refl, subst, arith}
 use Rattle.std.specs.Prelude.{not, int_lt, unsigned_abs, ◌-ℤ◌, ◌==◌}
 use Rattle.std.specs.Int.{cast_signed, w8, w16, w32}
 use Rattle.ms_pool.specs.declared.cursor.Short.{Short}
@@ -12,7 +12,6 @@ use Rattle.ms_pool.specs.Exact.{enough_ok, IsExact, both_exact, check_exact, don
 use Rattle.ms_pool.specs.Numbers.{width1, width2, width4}
 use Rattle.ms_code.specs.declared.form.Form.{Form}
 use Rattle.ms_code.specs.declared.form.Form.TheVariants.{Plain, SignedByte, SignedShort, ConstantByte, ConstantShort, LocalIndex, LocalAndByte, BranchShort, TableCases, LookupCases, FieldIndex, ConstructorIndex, MethodIndex, ClassIndex, ArrayType, Widened, BranchInt}
-use Rattle.ms_code.specs.declared.instruction.Instr.{Instr}
 use Rattle.ms_code.specs.declared.instruction.Operand.TheVariants as operands
 use Rattle.ms_code.specs.declared.trouble.Trouble.{Trouble}
 use Rattle.ms_code.specs.declared.trouble.Trouble.TheVariants.{Foreign, At, NoMemory}
@@ -70,7 +69,7 @@ found_sound {X = X} option = record {
     by_option (Some x) place trouble is = absurd (let e = is in cc)
     by_option None place trouble is = subst IsTold (err_is {A = X × Place} Foreign trouble is) tt
 
-check_sound : (test : Bool) (trouble : Trouble) → IsTold trouble → IsSound (check test trouble)
+pub check_sound : (test : Bool) (trouble : Trouble) → IsTold trouble → IsSound (check test trouble)
 check_sound test trouble is_told = record {
   exact = check_exact test trouble;
   forward = check_forward test trouble;
@@ -97,7 +96,7 @@ added_sound part before one = both_sound (part before) (λ x. done (before ++ x 
 
 -- NUMBERS
 
-u1_sound : (place : ℕ) → IsSound (u1 place)
+pub u1_sound : (place : ℕ) → IsSound (u1 place)
 u1_sound place = number_sound place 1 (number_exact (cut place) 1 width1)
 
 u2_sound : (place : ℕ) → IsSound (u2 place)
@@ -111,7 +110,7 @@ s2_sound : (place : ℕ) → IsSound (s2 place)
 unfolding s2
 s2_sound place = both_sound (u2 place) (λ n. done (cast_signed w16 n)) (u2_sound place) (λ n. done_sound (cast_signed w16 n))
 
-s4_sound : (place : ℕ) → IsSound (s4 place)
+pub s4_sound : (place : ℕ) → IsSound (s4 place)
 unfolding s4
 s4_sound place = both_sound (number (cut place) 4) (λ n. done (cast_signed w32 n)) (number_sound place 4 (number_exact (cut place) 4 width4)) (λ n. done_sound (cast_signed w32 n))
 
@@ -124,10 +123,13 @@ case_sound : (place offset : ℕ) (key : ℤ) → IsSound (case_of place offset 
 unfolding case_of
 case_sound place offset key = both_sound (s4 place) _ (s4_sound place) (λ by. done_sound (record { key = key; target = target_from offset by }))
 
+pub gap_sound : (place offset : ℕ) → IsSound (gap place offset)
+gap_sound place offset = run_sound place (3 - offset % 4)
+
 table_sound : (place offset : ℕ) → IsSound (table_switch place offset)
 unfolding table_switch
 table_sound place offset =
-    both_sound (gap place offset) _ (run_sound place _) (λ bytes.
+    both_sound (gap place offset) _ (gap_sound place offset) (λ bytes.
     both_sound (s4 place) _ (s4_sound place) (λ otherwise.
     both_sound (s4 place) _ (s4_sound place) (λ low.
     both_sound (s4 place) _ (s4_sound place) (λ high.
@@ -142,7 +144,7 @@ lookup_case_sound place offset = both_sound (s4 place) (case_of place offset) (s
 lookup_sound : (place offset : ℕ) → IsSound (lookup_switch place offset)
 unfolding lookup_switch
 lookup_sound place offset =
-    both_sound (gap place offset) _ (run_sound place _) (λ bytes.
+    both_sound (gap place offset) _ (gap_sound place offset) (λ bytes.
     both_sound (s4 place) _ (s4_sound place) (λ otherwise.
     both_sound (s4 place) _ (s4_sound place) (λ count.
     both_sound (check (not (int_lt count (pos 0))) (At kinds.Switch place)) _ (check_sound (not (int_lt count (pos 0))) (At kinds.Switch place) refl) (λ counted.
@@ -153,7 +155,7 @@ lookup_sound place offset =
 target_sound : (offset : ℕ) (by : ℤ) → IsSound (target offset by)
 target_sound offset by = done_sound (operands.Target (target_from offset by))
 
-operand_sound : (pool : List (Option Placed)) (place offset : ℕ) (form : Form) → IsSound (operand pool place offset form)
+pub operand_sound : (pool : List (Option Placed)) (place offset : ℕ) (form : Form) → IsSound (operand pool place offset form)
 unfolding operand
 operand_sound pool place offset Plain = done_sound operands.Nothing
 operand_sound pool place offset SignedByte = both_sound (s1 place) _ (s1_sound place) (λ word. done_sound (operands.Word word))
@@ -173,7 +175,7 @@ operand_sound pool place offset ArrayType = both_sound (u1 place) _ (u1_sound pl
 operand_sound pool place offset Widened = found_sound None
 operand_sound pool place offset BranchInt = both_sound (s4 place) _ (s4_sound place) (target_sound offset)
 
-wide_operand_sound : (place : ℕ) (form : Option Form) → IsSound (wide_operand place form)
+pub wide_operand_sound : (place : ℕ) (form : Option Form) → IsSound (wide_operand place form)
 unfolding wide_operand
 wide_operand_sound place None = found_sound None
 wide_operand_sound place (Some LocalIndex) = both_sound (u2 place) _ (u2_sound place) (λ index. done_sound (operands.Local index))
@@ -193,12 +195,39 @@ pub instruction_sound : (pool : List (Option Placed)) (place offset : ℕ) → I
 unfolding instruction
 instruction_sound pool place offset = both_sound (u1 place) _ (u1_sound place) (λ op. both_sound (found (form_of op) Foreign) _ (found_sound (form_of op)) (behind_sound pool place offset op))
 
+-- WHAT TAKES A BYTE
+
+-- a format that takes a byte at least where it is read
+pub record HasByte {X : Type 0} (format : Format Trouble X) : Type 0 where
+  pub takes : (place : Place) (x : X × Place) → format.read place ≡ Ok x → place.at + 1 ≤ x.1.at
+
+number_has_byte : (place n : ℕ) → 1 ≤ n → HasByte (number (cut place) n)
+number_has_byte place n some = record {
+  takes = λ start x is. subst (λ (y : ℕ × Place). start.at + 1 ≤ y.1.at) (enough_ok (cut place) n start _ x is).1 (omega (arith, some));
+}
+
+first_has_byte : {X Y : Type 0} (first : Format Trouble X) (rest : X → Format Trouble Y) → HasByte first → ((x : X) → IsForward (rest x)) → HasByte (first >>= rest)
+first_has_byte first rest one more = record {
+  takes = λ place y is. then_ok (first.read place) _ y is (λ x is_first is_rest. omega (arith, one.takes place x is_first, on_of x.1 y.1 ((more x.0).goes x.1 y is_rest)));
+}
+
+pub u1_has_byte : (place : ℕ) → HasByte (u1 place)
+u1_has_byte place = number_has_byte place 1 (omega arith)
+
+s4_has_byte : (place : ℕ) → HasByte (s4 place)
+unfolding s4
+s4_has_byte place = first_has_byte (number (cut place) 4) _ (number_has_byte place 4 (omega arith)) (λ n. done_forward (cast_signed w32 n))
+
+pub case_has_byte : (place offset : ℕ) (key : ℤ) → HasByte (case_of place offset key)
+unfolding case_of
+case_has_byte place offset key = first_has_byte (s4 place) _ (s4_has_byte place) (λ by. done_forward (record { key = key; target = target_from offset by }))
+
+pub lookup_case_has_byte : (place offset : ℕ) → HasByte (lookup_case place offset)
+unfolding lookup_case
+lookup_case_has_byte place offset = first_has_byte (s4 place) _ (s4_has_byte place) (λ key. (case_sound place offset key).forward)
+
 -- an instruction has one byte at least
-pub instruction_has_byte : (pool : List (Option Placed)) (code_at offset : ℕ) (place : Place) (x : Instr × Place) → (instruction pool code_at offset).read place ≡ Ok x → place.at + 1 ≤ x.1.at
+pub instruction_has_byte : (pool : List (Option Placed)) (code_at offset : ℕ) → HasByte (instruction pool code_at offset)
 unfolding instruction
-instruction_has_byte pool code_at offset place x is =
-    then_ok ((u1 code_at).read place) _ x is (λ op is_op rest.
-    let p = enough_ok (cut code_at) 1 place _ op is_op in
-    let one : place.at + 1 ≤ op.1.at = subst (λ (y : ℕ × Place). place.at + 1 ≤ y.1.at) p.1 (omega arith) in
-    let more = (both_sound (found (form_of op.0) Foreign) _ (found_sound (form_of op.0)) (behind_sound pool code_at offset op.0)).forward.goes op.1 x rest in
-    omega (arith, one, on_of op.1 x.1 more))
+instruction_has_byte pool code_at offset =
+    first_has_byte (u1 code_at) _ (u1_has_byte code_at) (λ op. (both_sound (found (form_of op) Foreign) _ (found_sound (form_of op)) (behind_sound pool code_at offset op)).forward)

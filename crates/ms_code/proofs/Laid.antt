@@ -1,5 +1,5 @@
 -- The instructions of a code stand end to end: where one ends another starts, or the code ends.
-use Rattle.std.proofs.Common.{◌≡◌, ◌⊎◌, ℕ, zero, suc, ◌+◌, ◌-◌, ◌<◌, List, [], ◌∷◌, ◌++◌, length, replicate, Option, Some, None, Ok, refl, sym, ap, subst, ◌∙◌, arith, inl, inr, append_assoc, append-nil}
+use Rattle.std.proofs.Common.{◌≡◌, ◌⊎◌, ℕ, zero, suc, ◌+◌, ◌-◌, ◌<◌, ◌≤◌, List, [], ◌∷◌, ◌++◌, length, replicate, Option, Some, None, Ok, refl, sym, ap, subst, ◌∙◌, arith, inl, inr, append_assoc, append-nil}
 use Rattle.std.specs.Prelude.{slice_get}
 use Rattle.std.proofs.lemmas.List.{length-append, length-replicate}
 use Rattle.ms_pool.specs.Pools.{Placed}
@@ -58,6 +58,24 @@ none_of (suc n) (suc k) step is = none_of n k step is
 first_of : (first : Step) (n k : ℕ) (step : Step) → slice_get (Some first ∷ replicate n None) k ≡ Some (Some step) → first ≡ step
 first_of first n zero step is = let e = is in cc
 first_of first n (suc k) step is = absurd (none_of n k step is)
+
+-- it holds of each instruction that stands in these steps, and each ends before this offset or there
+abbrev Each : (Step → Type 0) → Steps → ℕ → Type 0
+Each P known at = (offset : ℕ) (step : Step) → slice_get known offset ≡ Some (Some step) → P step × (step.next ≤ at)
+
+-- what holds of each instruction that is read holds of each that stands in a code, and none ends behind the code's end
+pub each_along : (P : Step → Type 0) (pool : List (Option Placed)) (code_at : ℕ) (bytes : List ℕ) (found : Steps) (after : Place) → ((place after : Place) (instr : Instr) → (instruction pool (code_at + place.at) place.at).read place ≡ Ok (instr, after) → P (record { instr = instr; next = after.at }))
+    → (steps pool (length bytes) code_at).read (beginning bytes) ≡ Ok (found, after) → Each P found (length bytes)
+each_along P pool code_at bytes found after each is = all_along (Each P) pool code_at bytes found after (record { kept = kept }) (λ offset step there. absurd (let e = there in cc)) is
+  where
+    kept : (before : Steps) (place after : Place) (instr : Instr) → (instruction pool (code_at + place.at) place.at).read place ≡ Ok (instr, after) → place.at < after.at → Each P before place.at → Each P (before ++ steps_of place.at (record { instr = instr; next = after.at })) after.at
+    kept before place after instr is_instr further so_far offset step there = by_part (get_either before (steps_of place.at (record { instr = instr; next = after.at })) offset (Some step) there)
+      where
+        by_part : (slice_get before offset ≡ Some (Some step)) ⊎ ((j : ℕ) × (slice_get (steps_of place.at (record { instr = instr; next = after.at })) j ≡ Some (Some step))) → P step × (step.next ≤ after.at)
+        by_part (inl earlier) =
+            let known = so_far offset step earlier in
+            (known.0, omega (arith, known.1, further))
+        by_part (inr last) = subst (λ (s : Step). P s × (s.next ≤ after.at)) (first_of (record { instr = instr; next = after.at }) (after.at - place.at - 1) last.0 step last.1) (each place after instr is_instr, omega arith)
 
 -- no step is there
 abbrev no_step : Option Step

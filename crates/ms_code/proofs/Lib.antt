@@ -7,6 +7,6 @@ mod Targets
 pub mod Exact
 pub mod Only
 pub mod Laid
-mod Ordered
+mod Formed
 mod Whole
 mod Example

@@ -23,7 +23,7 @@ pub record GoesFurther (place after : Place) : Type 0 where
 pub instruction_goes : (pool : List (Option Placed)) (code_at offset : ℕ) (place : Place) (instr : Instr) (after : Place) → (instruction pool code_at offset).read place ≡ Ok (instr, after) → GoesFurther place after
 instruction_goes pool code_at offset place instr after found = record {
   whole = whole_of place after ((instruction_sound pool code_at offset).forward.goes place (instr, after) found);
-  on = instruction_has_byte pool code_at offset place (instr, after) found;
+  on = (instruction_has_byte pool code_at offset).takes place (instr, after) found;
 }
 
 pub step_goes : (pool : List (Option Placed)) (code_at : ℕ) (before : Steps) (place : Place) (x : Steps × Place) → (step pool code_at before).read place ≡ Ok x → GoesFurther place x.1

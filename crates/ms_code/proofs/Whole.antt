@@ -16,10 +16,10 @@ use Rattle.ms_code.specs.declared.instruction.Instr.{Instr}
 use Rattle.ms_code.specs.declared.trouble.Trouble.{Trouble}
 use Rattle.ms_code.specs.declared.trouble.Trouble.TheVariants.{Foreign}
 use Rattle.ms_code.specs.Codes.{Code, DecodedCode, IsDecoded, Steps, caught, decoded, first_astray, first_misplaced, handler_of, handlers_of, is_astray, is_entry, is_start, read_unless, step_at, steps, targets_of, within}
-use Rattle.ms_code.specs.Laws.{IsWhole, has_keys_in_order, is_handler}
+use Rattle.ms_code.specs.Laws.{IsWhole, is_handler}
 use Rattle.ms_code.proofs.Exact.{decoded_sound, steps_many}
-use Rattle.ms_code.proofs.Laid.{are_laid, first_laid, followed}
-use Rattle.ms_code.proofs.Ordered.{are_ordered, is_ordered}
+use Rattle.ms_code.proofs.Formed.{IsRight, found_is, instruction_right}
+use Rattle.ms_code.proofs.Laid.{are_laid, each_along, first_laid, followed}
 
 -- the parts of a code that was decoded
 record HasParts (pool : List (Option Placed)) (code : Code) (result : DecodedCode) : Type 0 where
@@ -32,10 +32,6 @@ record HasParts (pool : List (Option Placed)) (code : Code) (result : DecodedCod
 none_read : (astray : Option ℕ) (place : Place) (x : Unit {0} × Place) → read_unless astray place ≡ Ok x → astray ≡ None
 none_read None place x is = refl
 none_read (Some at) place x is = absurd (let e = is in cc)
-
-found_is : {X : Type 0} (option : Option X) (place : Place) (x : X × Place) → (found option Foreign).read place ≡ Ok x → option ≡ Some x.0
-found_is {X = X} (Some y) place x is = ap (λ (z : X × Place). Some z.0) (ok_is {Fault = Trouble} (y, place) x is)
-found_is None place x is = absurd (let e = is in cc)
 
 parts : (pool : List (Option Placed)) (code : Code) (x : DecodedCode × Place) → (decoded pool code).read (beginning code.code) ≡ Ok x → HasParts pool code x.0
 unfolding decoded
@@ -133,7 +129,7 @@ handlers_many pool (row ∷ rows) handlers found =
 
 -- THE LAW
 
-pub is_whole : (pool : List (Option Placed)) (code : Code) (result : DecodedCode) → IsBytes code.code → IsDecoded pool code result → IsWhole code result
+pub is_whole : (pool : List (Option Placed)) (code : Code) (result : DecodedCode) → IsBytes code.code → IsDecoded pool code result → IsWhole pool code result
 is_whole pool code result bytes is =
     let p = parts pool code (result, is.after) ((decoded_sound pool code).exact.reads (beginning code.code) result is.after bytes is.is) in
     let size = length code.code in
@@ -153,13 +149,19 @@ is_whole pool code result bytes is =
           let q = mapped (λ (step : Step). step.instr) (step_at result.steps offset) instr at_offset in
           let t = all_get (λ step. not (is_astray result.steps step)) result.steps offset (Some q.0) (none_astray result.steps code.code_at result.steps p.targets) (step_is result.steps offset q.0 q.1) in
           subst (λ (i : Instr). list_all (is_start result.steps) (targets_of i.operand) ≡ true) q.2 (not_not _ t);
-      keys = λ offset instr at_offset.
-          let q = mapped (λ (step : Step). step.instr) (step_at result.steps offset) instr at_offset in
-          subst (λ (i : Instr). has_keys_in_order i.operand ≡ true) q.2 (all_get is_ordered result.steps offset (Some q.0) (are_ordered pool code.code_at code.code result.steps p.after p.steps_are) (step_is result.steps offset q.0 q.1));
+      fits = λ offset instr at_offset. (right p.after result.steps p.steps_are offset instr at_offset).fits;
+      few = λ offset instr at_offset. (right p.after result.steps p.steps_are offset instr at_offset).few;
+      keys = λ offset instr at_offset. (right p.after result.steps p.steps_are offset instr at_offset).keys;
       as_many = handlers_many pool code.table result.handlers p.handlers;
       handlers = are_handlers pool result.steps size code.table_at code.table result.handlers p.handlers p.entries;
     }
   where
+    right : (after : Place) (all : Steps) → (steps pool (length code.code) code.code_at).read (beginning code.code) ≡ Ok (all, after) → (offset : ℕ) (instr : Instr) → option_map (λ (step : Step). step.instr) (step_at all offset) ≡ Some instr → IsRight pool instr (length code.code)
+    right after all are offset instr at_offset =
+        let q = mapped (λ (step : Step). step.instr) (step_at all offset) instr at_offset in
+        let here = each_along (λ (step : Step). IsRight pool step.instr step.next) pool code.code_at code.code all after (λ place after instr is_instr. instruction_right pool (code.code_at + place.at) place.at place (instr, after) is_instr) are offset q.0 (step_is all offset q.0 q.1) in
+        subst (λ (i : Instr). IsRight pool i (length code.code)) q.2 (record { fits = here.0.fits; keys = here.0.keys; few = omega (arith, here.0.few, here.1) })
+
     by_end : (step : Step) (behind : ℕ) → step.next ≡ behind → step.next < length code.code → {placed : Steps} → result.steps ≡ placed → (step.next ≡ length code.code) ⊎ ((other : Step) × (slice_get placed (step.next - 0) ≡ Some (Some other))) → is_start result.steps behind ≡ true
     by_end step behind same below are (inl all) = absurd (omega (arith, below, all))
     by_end step behind same below {placed = placed} are (inr there) =

@@ -21,7 +21,7 @@ pub fn codes_are_decoded_foreign_or_at_fault()
 
 /// The law of decoded codes, of bytes below 256. It does nothing.
 pub fn decoded_codes_are_whole()
-    ensures { (pool : Slots) (code : Code) (decoded : DecodedCode) → AreBytes code → IsDecoded pool code decoded → IsWhole code decoded }
+    ensures { (pool : Slots) (code : Code) (decoded : DecodedCode) → AreBytes code → IsDecoded pool code decoded → IsWhole pool code decoded }
 {}
 
 /// The law of decoding, of bytes below 256: what the definition of codes reads of one is what it says, or
