@@ -27,19 +27,24 @@ use Rattle.ms_code.proofs.Keys.{are_from_ascend, table_keys}
 record Yields {X : Type 0} (P : X → Type 0) (format : Format Trouble X) : Type 0 where
   pub all : (place : Place) (x : X × Place) → format.read place ≡ Ok x → P x.0
 
+-- so has what is read from no bytes
 done_yields : {X : Type 0} {P : X → Type 0} (x : X) → P x → Yields P (done x)
 done_yields {X = X} {P = P} x holds = record { all = λ place y is. subst (λ (z : X × Place). P z.0) (ok_is {Fault = Trouble} (x, place) y is) holds }
 
+-- so has what is read behind something
 both_yields : {X Y : Type 0} {P : Y → Type 0} (first : Format Trouble X) (rest : X → Format Trouble Y) → ((x : X) → Yields P (rest x)) → Yields P (first >>= rest)
 both_yields first rest more = record { all = λ place y is. then_ok (first.read place) _ y is (λ x is_first is_rest. (more x.0).all x.1 y is_rest) }
 
+-- so has what isn't read
 foreign_yields : {X : Type 0} (P : X → Type 0) → Yields P foreign
 foreign_yields P = record { all = λ place y is. absurd (let e = is in cc) }
 
+-- behind a check its test holds
 check_true : (test : Bool) (trouble : Trouble) (place : Place) (x : Unit {0} × Place) → (check test trouble).read place ≡ Ok x → test ≡ true
 check_true true trouble place x is = refl
 check_true false trouble place x is = absurd (let e = is in cc)
 
+-- what was read was found
 pub found_is : {X : Type 0} (option : Option X) (place : Place) (x : X × Place) → (found option Foreign).read place ≡ Ok x → option ≡ Some x.0
 found_is {X = X} (Some y) place x is = ap (λ (z : X × Place). Some z.0) (ok_is {Fault = Trouble} (y, place) x is)
 found_is None place x is = absurd (let e = is in cc)
@@ -54,15 +59,18 @@ IsFormed pool form operand = (has_form pool form operand ≡ true) × (has_keys_
 abbrev IsNumber : (ℕ → Bool) → Operand → Type 0
 IsNumber test operand = (is_number test operand ≡ true) × (has_keys_in_order operand ≡ true)
 
+-- what is read as such a number is one
 named_yields : (test : ℕ → Bool) (i : ℕ) → Yields (IsNumber test) (named test i)
 named_yields test i = record {
   all = λ at x is. then_ok ((check (test i) Foreign).read at) _ x is (λ known is_known rest.
       (done_yields {P = IsNumber test} (operands.Pool i) (check_true (test i) Foreign at known is_known, refl)).all known.1 x rest);
 }
 
+-- a target
 target_yields : (pool : Slots) (offset : ℕ) (by : _) → Yields (IsFormed pool BranchInt) (target offset by)
 target_yields pool offset by = done_yields _ (refl, refl)
 
+-- the cases of a tableswitch
 table_yields : (pool : Slots) (place offset : ℕ) → Yields (IsFormed pool TableCases) (table_switch place offset)
 unfolding table_switch
 table_yields pool place offset =
@@ -75,6 +83,7 @@ table_yields pool place offset =
           (done_yields {P = IsFormed pool TableCases} _ (refl, are_from_ascend low cases.0 (table_keys (unsigned_abs (high -ℤ low) + 1) place offset low [] at cases tt are))).all cases.1 x rest);
     })))))
 
+-- the cases of a lookupswitch
 lookup_yields : (pool : Slots) (place offset : ℕ) → Yields (IsFormed pool LookupCases) (lookup_switch place offset)
 unfolding lookup_switch
 lookup_yields pool place offset =
@@ -87,6 +96,7 @@ lookup_yields pool place offset =
           (done_yields {P = IsFormed pool LookupCases} _ (refl, check_true (keys_ascend cases) (At kinds.Switch place) at ordered is_ordered)).all ordered.1 x rest);
     })))))
 
+-- what is read as an operand of a form is of that form
 operand_yields : (pool : Slots) (place offset : ℕ) (form : Form) → Yields (IsFormed pool form) (operand pool place offset form)
 unfolding operand
 operand_yields pool place offset Plain = done_yields _ (refl, refl)
@@ -113,6 +123,7 @@ record IsWide (pool : Slots) (form : Option Form) (operand : Operand) : Type 0 w
   pub keys : has_keys_in_order operand ≡ true
   pub few : length (targets_of operand) ≤ 1
 
+-- what is read behind `wide` is such an operand
 wide_yields : (pool : Slots) (place : ℕ) (form : Option Form) → Yields (IsWide pool form) (wide_operand place form)
 unfolding wide_operand
 wide_yields pool place None = foreign_yields (IsWide pool None)
@@ -126,6 +137,7 @@ wide_yields pool place (Some other) = foreign_yields (IsWide pool (Some other))
 record IsFew (cases : ℕ) (format : Format Trouble Operand) : Type 0 where
   pub few : (place : Place) (x : Operand × Place) → format.read place ≡ Ok x → length (targets_of x.0) + place.at ≤ x.1.at + 1 + cases
 
+-- so it is behind something
 few_behind : {X : Type 0} (cases : ℕ) (first : Format Trouble X) (rest : X → Format Trouble Operand) → IsForward first → ((x : X) → IsFew cases (rest x)) → IsFew cases (first >>= rest)
 few_behind cases first rest forward more = record { few = λ place y is. then_ok (first.read place) _ y is (λ x is_first is_rest. omega (arith, on_of place x.1 (forward.goes place x is_first), (more x.0).few x.1 y is_rest)) }
 
@@ -138,12 +150,14 @@ cases_take (suc n) part each before at x found =
     let is : (before ++ case.0 ∷ [], case.1) ≡ all = ok_is {Fault = Trouble} (before ++ case.0 ∷ [], case.1) all last in
     omega (arith, (each before).takes at case is_case, ap (λ (y : List Case × Place). length y.0) is, ap (λ (y : List Case × Place). y.1.at) is, length-append before (case.0 ∷ []), cases_take n part each all.0 all.1 x rest)))
 
+-- so it is behind the cases
 few_cases : (n : ℕ) (part : List Case → Format Trouble Case) (rest : List Case → Format Trouble Operand) → ((before : List Case) → HasByte (part before)) → ((cases : List Case) → IsFew (length cases) (rest cases)) → IsFew 0 (repeated n (added part) [] >>= rest)
 few_cases n part rest each more = record {
   few = λ place y is. then_ok ((repeated n (added part) []).read place) _ y is (λ cases are is_rest.
       omega (arith, cases_take n part each [] place cases are, (more cases.0).few cases.1 y is_rest));
 }
 
+-- of a switch whose cases were read
 switch_few : (cases : List Case) (otherwise : ℕ) → IsFew (length cases) (done (operands.Cases (record { cases = cases; otherwise = otherwise })))
 switch_few cases otherwise = record {
   few = λ place x is.
@@ -151,6 +165,7 @@ switch_few cases otherwise = record {
       subst (λ (y : Operand × Place). length (targets_of y.0) + place.at ≤ y.1.at + 1 + length cases) (ok_is {Fault = Trouble} (operands.Cases (record { cases = cases; otherwise = otherwise }), place) x is) (omega (arith, many));
 }
 
+-- of a tableswitch
 table_few : (place offset : ℕ) → IsFew 0 (table_switch place offset)
 unfolding table_switch
 table_few place offset =
@@ -161,6 +176,7 @@ table_few place offset =
     few_behind 0 (check (not (int_lt high low)) (At kinds.Switch place)) _ (check_sound (not (int_lt high low)) (At kinds.Switch place) refl).forward (λ ordered.
     few_cases (unsigned_abs (high -ℤ low) + 1) (table_case place offset low) _ (λ before. case_has_byte place offset _) (λ cases. switch_few cases (target_from offset otherwise)))))))
 
+-- of a lookupswitch
 lookup_few : (place offset : ℕ) → IsFew 0 (lookup_switch place offset)
 unfolding lookup_switch
 lookup_few place offset =
@@ -177,21 +193,25 @@ is_switch TableCases = true
 is_switch LookupCases = true
 is_switch other = false
 
+-- no other form has cases
 no_cases : (pool : Slots) (form : Form) (switch : _) → has_form pool form (operands.Cases switch) ≡ true → is_switch form ≡ false → ⊥
 no_cases pool TableCases switch is plain = absurd (let e = plain in cc)
 no_cases pool LookupCases switch is plain = absurd (let e = plain in cc)
 no_cases pool other switch is plain = absurd (let e = is in cc)
 
+-- and no other form has two targets
 one_target : (pool : Slots) (form : Form) (operand : Operand) → has_form pool form operand ≡ true → is_switch form ≡ false → length (targets_of operand) ≤ 1
 one_target pool form (operands.Cases switch) is plain = absurd (no_cases pool form switch is plain)
 one_target pool form (operands.Target target) is plain = omega arith
 one_target pool form other is plain = omega arith
 
+-- so it is of an operand of another form
 plain_few : (pool : Slots) (place offset : ℕ) (form : Form) → is_switch form ≡ false → IsFew 0 (operand pool place offset form)
 plain_few pool place offset form plain = record {
   few = λ at x is. omega (arith, one_target pool form x.0 ((operand_yields pool place offset form).all at x is).0 plain, on_of at x.1 ((operand_sound pool place offset form).forward.goes at x is));
 }
 
+-- so it is of each operand
 operand_few : (pool : Slots) (place offset : ℕ) (form : Form) → IsFew 0 (operand pool place offset form)
 unfolding operand
 operand_few pool place offset TableCases = table_few place offset
@@ -206,6 +226,7 @@ pub record IsRight (pool : Slots) (instr : Instr) (most : ℕ) : Type 0 where
   pub keys : has_keys_in_order instr.operand ≡ true
   pub few : length (targets_of instr.operand) ≤ most
 
+-- an instruction that is read behind an opcode which isn't `wide` is such
 plain_right : (pool : Slots) (place offset op : ℕ) (form : Form) → form_of op ≡ Some form → (at : Place) (x : Instr × Place) → 1 ≤ at.at → (operand pool place offset form >>= λ operand. done (record { op = op; wide = false; operand = operand })).read at ≡ Ok x → IsRight pool x.0 x.1.at
 plain_right pool place offset op form is_form at x some is =
     then_ok ((operand pool place offset form).read at) _ x is (λ operand is_operand rest.
@@ -218,6 +239,7 @@ plain_right pool place offset op form is_form at x some is =
       few = omega (arith, some, (operand_few pool place offset form).few at operand is_operand);
     }))
 
+-- so is one behind any opcode
 behind_right : (pool : Slots) (place offset op : ℕ) (form : Form) → form_of op ≡ Some form → (at : Place) (x : Instr × Place) → 1 ≤ at.at → (behind pool place offset op form).read at ≡ Ok x → IsRight pool x.0 x.1.at
 unfolding behind widened
 behind_right pool place offset op Widened is_form at x some is =
@@ -230,6 +252,7 @@ behind_right pool place offset op Widened is_form at x some is =
     (record { fits = wide.fits; keys = wide.keys; few = omega (arith, some, on, further, wide.few) })))
 behind_right pool place offset op form is_form at x some is = plain_right pool place offset op form is_form at x some is
 
+-- so is each instruction, and it has no more targets than where it ends
 pub instruction_right : (pool : Slots) (place offset : ℕ) (at : Place) (x : Instr × Place) → (instruction pool place offset).read at ≡ Ok x → IsRight pool x.0 x.1.at
 unfolding instruction
 instruction_right pool place offset at x is =

@@ -123,6 +123,7 @@ case_sound : (place offset : ℕ) (key : ℤ) → IsSound (case_of place offset 
 unfolding case_of
 case_sound place offset key = both_sound (s4 place) _ (s4_sound place) (λ by. done_sound (record { key = key; target = target_from offset by }))
 
+-- a gap is sound
 pub gap_sound : (place offset : ℕ) → IsSound (gap place offset)
 gap_sound place offset = run_sound place (3 - offset % 4)
 
@@ -201,11 +202,13 @@ instruction_sound pool place offset = both_sound (u1 place) _ (u1_sound place) (
 pub record HasByte {X : Type 0} (format : Format Trouble X) : Type 0 where
   pub takes : (place : Place) (x : X × Place) → format.read place ≡ Ok x → place.at + 1 ≤ x.1.at
 
+-- a number does
 number_has_byte : (place n : ℕ) → 1 ≤ n → HasByte (number (cut place) n)
 number_has_byte place n some = record {
   takes = λ start x is. subst (λ (y : ℕ × Place). start.at + 1 ≤ y.1.at) (enough_ok (cut place) n start _ x is).1 (omega (arith, some));
 }
 
+-- so do parts of which the first does
 first_has_byte : {X Y : Type 0} (first : Format Trouble X) (rest : X → Format Trouble Y) → HasByte first → ((x : X) → IsForward (rest x)) → HasByte (first >>= rest)
 first_has_byte first rest one more = record {
   takes = λ place y is. then_ok (first.read place) _ y is (λ x is_first is_rest. omega (arith, one.takes place x is_first, on_of x.1 y.1 ((more x.0).goes x.1 y is_rest)));
