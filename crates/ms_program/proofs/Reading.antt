@@ -23,7 +23,7 @@ abbrev Slots : Type 0
 Slots = List (Option Placed)
 
 -- a decodable code is the method's
-decodable_is : (method : Method) (code : Code) → decodable method ≡ Some code → method.code ≡ Some code
+pub decodable_is : (method : Method) (code : Code) → decodable method ≡ Some code → method.code ≡ Some code
 decodable_is method code is = by_all (is_plain method.access) method.code (parameters_of method.desc) is
   where
     by_room : (c : Code) (b : Bool) → ◌≡◌ {A = Option Code} (cond b (Some c) None) (Some code) → ◌≡◌ {A = Option Code} (Some c) (Some code)

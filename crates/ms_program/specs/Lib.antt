@@ -6,3 +6,4 @@ pub mod Programs
 pub mod Parts
 pub mod Faults
 pub mod Views
+pub mod Laws

@@ -13,7 +13,9 @@ mod view;
 
 pub use body::{Bodies, Body};
 pub use file::{File, FileFault, first_fault, read_file};
-pub use laws::files_are_read;
+pub use laws::{
+    files_are_read, instructions_are_of_the_subset, members_have_first_items, views_lead_to_views,
+};
 pub use method::{MethodBody, MethodId};
 pub use program::{AddFault, EntryRefusal, Program};
 pub use view::{CatchPart, Initialiser, MemberPart, Named, View};
