@@ -10,7 +10,9 @@ use Rattle.ms_classfile.specs.Instructions.{depth_after, is_placed, is_return, s
 use Rattle.ms_classfile.specs.ThinFile.{IsThinMethod, Method}
 use Rattle.ms_machine.specs.Ints.{Ints, ints}
 use Rattle.ms_machine.specs.Ints as int
-use Rattle.ms_machine.specs.Effects.{Comparison, Int, Does, Doing, Asks, Moves, Returns, Next, Target, Test, Compares, End, Returned, ReturnedVoid, Threw, InitFailed, Missing, Runaway, Deep, SymLength, HeapFull, Stuck, by_arm, effect}
+use Rattle.ms_machine.specs.Instructions.{Comparison}
+use Rattle.ms_machine.specs.Values.{Int, End, Returned, ReturnedVoid, Threw, InitFailed, Missing, Runaway, Deep, SymLength, HeapFull, Stuck}
+use Rattle.ms_machine.specs.Effects.{Does, Doing, Asks, Moves, Returns, Next, Target, Test, Compares, by_arm, effect}
 use Rattle.ms_machine.specs.Control.{Done, Goes, Ends, memory_at_start, perform}
 use Rattle.ms_machine.specs.Tests.{arm_of, arms_of, known_test}
 use Rattle.ms_machine.specs.Segments.{After, Choice, Over, forked, most_instructions, segment_from, segment_within}

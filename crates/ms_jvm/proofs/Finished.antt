@@ -5,7 +5,7 @@ use Rattle.ms_words.specs.declared.end.PathEnd.TheVariants as path_end
 use Rattle.ms_words.specs.Inputs.{Words}
 use Rattle.ms_classfile.specs.ThinFile.{Method}
 use Rattle.ms_machine.specs.Ints.{Int, Marked}
-use Rattle.ms_machine.specs.Effects.{Returned, ReturnedVoid, Threw, InitFailed, Missing, Runaway, Deep, SymLength, HeapFull, Stuck}
+use Rattle.ms_machine.specs.Values.{Returned, ReturnedVoid, Threw, InitFailed, Missing, Runaway, Deep, SymLength, HeapFull, Stuck}
 use Rattle.ms_machine.specs.Runs.{RunEnd, Ended, Cut, end_of, string}
 use Rattle.ms_machine.specs.Maps.{map_run_end}
 use Rattle.ms_machine.specs.Laws.{MarksAreRight, mark_of}

@@ -9,7 +9,9 @@ use Rattle.ms_classfile.specs.declared.instruction.Instruction.{Instruction}
 use Rattle.ms_classfile.specs.Instructions.{depth_after, is_return, size_of}
 use Rattle.ms_classfile.specs.ThinFile.{IsThinMethod, Method}
 use Rattle.ms_machine.specs.Ints.{Ints, Marked, marks}
-use Rattle.ms_machine.specs.Effects.{Comparison, relation, Int, Does, Asks, Doing, Moves, Returns, Next, Target, Test, Compares, Returned, by_arm, effect}
+use Rattle.ms_machine.specs.Instructions.{Comparison, relation}
+use Rattle.ms_machine.specs.Values.{Int, Returned}
+use Rattle.ms_machine.specs.Effects.{Does, Asks, Doing, Moves, Returns, Next, Target, Test, Compares, by_arm, effect}
 use Rattle.ms_machine.specs.Control.{Done, Views, memory_at_start, perform}
 use Rattle.ms_machine.specs.Tests.{both_known}
 use Rattle.ms_machine.specs.Segments.{After, Choice, Over, forked, most_instructions, segment_from, segment_within}

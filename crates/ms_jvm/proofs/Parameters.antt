@@ -2,7 +2,7 @@
 use Rattle.std.proofs.Common.{◌≡◌, ℕ, zero, suc, ◌<◌, false, List, [], ◌∷◌, length, map, ℤ, Some, slice_get, ap, arith}
 use Rattle.ms_words.specs.declared.kind.Kind.{Kind}
 use Rattle.ms_machine.specs.Ints.{Marked}
-use Rattle.ms_machine.specs.Effects.{Int}
+use Rattle.ms_machine.specs.Values.{Int}
 use Rattle.ms_machine.specs.Runs.{given_from}
 use Rattle.ms_machine.specs.Laws.{mark_of}
 use Rattle.ms_jvm.specs.Turns.{locals_of}

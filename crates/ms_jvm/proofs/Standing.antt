@@ -3,7 +3,8 @@ use Rattle.std.proofs.Common.{◌≡◌, ℕ, suc, ◌+◌, ◌-◌, ◌<◌, Bo
 use Rattle.ms_classfile.specs.declared.instruction.Instruction.{Instruction}
 use Rattle.ms_classfile.specs.Instructions.{size_of}
 use Rattle.ms_machine.specs.Ints.{Ints}
-use Rattle.ms_machine.specs.Effects.{Int, Effect, Does, Asks, Doing, Moves, Returns, Next, Target, Test, Returned, by_arm, effect}
+use Rattle.ms_machine.specs.Values.{Int, Returned}
+use Rattle.ms_machine.specs.Effects.{Effect, Does, Asks, Doing, Moves, Returns, Next, Target, Test, by_arm, effect}
 use Rattle.ms_machine.specs.Control.{Done, Goes, Ends, State, memory_at_start, perform, performed, step}
 use Rattle.ms_machine.specs.Tests.{known_test}
 use Rattle.ms_machine.specs.Segments.{Over, followed, forked, segment_within}

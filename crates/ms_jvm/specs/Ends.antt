@@ -4,7 +4,7 @@ use Rattle.ms_words.specs.declared.end.Ended.TheVariants as ended
 use Rattle.ms_words.specs.declared.end.PathEnd.{PathEnd}
 use Rattle.ms_words.specs.declared.end.PathEnd.TheVariants as path_end
 use Rattle.ms_machine.specs.Ints.{Int}
-use Rattle.ms_machine.specs.Effects.{Returned, ReturnedVoid, Threw, InitFailed, Missing, Runaway, Deep, SymLength, HeapFull, Stuck}
+use Rattle.ms_machine.specs.Values.{Returned, ReturnedVoid, Threw, InitFailed, Missing, Runaway, Deep, SymLength, HeapFull, Stuck}
 use Rattle.ms_machine.specs.Tests.{arms_of}
 use Rattle.ms_machine.specs.Segments.{After, Choice, Over}
 use Rattle.ms_machine.specs.Runs.{RunEnd, Ended, Cut}

@@ -9,8 +9,8 @@ use Rattle.ms_classfile.specs.declared.instruction.Instruction.{Instruction}
 use Rattle.ms_classfile.specs.declared.instruction.Instruction.TheVariants.{IloadN, Iload, Iconst, Bipush, Iadd, Isub, If, IfIcmp, Ireturn}
 use Rattle.ms_classfile.specs.Instructions.{size_of}
 use Rattle.ms_classfile.specs.ThinFile.{Method}
-use Rattle.ms_machine.specs.Effects.{Comparison, Equal, NotEqual, Less, AtLeast, Greater, AtMost, Instr, Push, Load, Combine, Compare, CompareZero, ReturnValue}
-use Rattle.ms_machine.specs.Control.{Program, View, Views, NoInitialiser}
+use Rattle.ms_machine.specs.Instructions.{Comparison, Equal, NotEqual, Less, AtLeast, Greater, AtMost, Absent, OfInt, Instr, Push, Load, Combine, Compare, CompareZero, ReturnValue}
+use Rattle.ms_machine.specs.Control.{Program, View, Views}
 
 -- WHAT AN INSTRUCTION DOES
 
@@ -25,15 +25,15 @@ comparison_of Le = AtMost
 
 -- an instruction of the machine for one of a file
 abbrev pub instr_of : Instruction → Instr
-instr_of (IloadN local) = Load local
-instr_of (Iload local) = Load local
+instr_of (IloadN local) = Load OfInt local
+instr_of (Iload local) = Load OfInt local
 instr_of (Iconst word) = Push word
 instr_of (Bipush word) = Push word
 instr_of Iadd = Combine Add
 instr_of Isub = Combine Sub
 instr_of (If condition far) = CompareZero (comparison_of condition)
 instr_of (IfIcmp condition far) = Compare (comparison_of condition)
-instr_of Ireturn = ReturnValue
+instr_of Ireturn = ReturnValue OfInt
 
 -- WHERE IT STANDS
 
@@ -78,7 +78,7 @@ first_view offset (instruction ∷ code) = Some (record {
   targets = targets_of offset (distance_of instruction);
   handlers = [];
   callee = None;
-  initialiser = None;
+  initialiser_first = None;
 })
 
 -- what the machine sees at an item: the instruction there, where one begins
@@ -86,9 +86,10 @@ abbrev pub views_of : List Instruction → Views
 views_of code Entry = None
 views_of code (At class method offset) = cond ((class == 0) && (method == 0)) (first_view offset (code_from offset code)) None
 
--- the program whose entry is the thin method: one class without an initialiser, and one method
+-- The program whose entry is the thin method: one class without an initialiser, and one method. The name of the class is of
+-- no account, since no run misses anything.
 abbrev pub program_of : Method → Program
 program_of method = record {
-  entry = record { kinds = method.kinds; result = Some method.result; first = at 0; class = 0; initialiser = NoInitialiser };
+  entry = record { kinds = method.kinds; result = Some method.result; first = at 0; class = 0; class_name = []; initialiser = Absent; initialiser_first = None };
   view = views_of method.instructions;
 }

@@ -6,7 +6,9 @@ use Rattle.ms_words.specs.Inputs.{Words}
 use Rattle.ms_classfile.specs.declared.instruction.Instruction.{Instruction}
 use Rattle.ms_classfile.specs.declared.instruction.Instruction.TheVariants.{IloadN, Iload, Iconst, Bipush, Iadd, Isub, If, IfIcmp, Ireturn}
 use Rattle.ms_machine.specs.Ints.{Marked}
-use Rattle.ms_machine.specs.Effects.{Comparison, Value, Int, Here, Effect, Does, Asks, Moves, Returns, Next, Target, Compares, by_arm, relation}
+use Rattle.ms_machine.specs.Instructions.{Comparison, relation}
+use Rattle.ms_machine.specs.Values.{Value, Int}
+use Rattle.ms_machine.specs.Effects.{Here, Effect, Does, Asks, Moves, Returns, Next, Target, Compares, by_arm}
 use Rattle.ms_machine.specs.Control.{memory_at_start}
 use Rattle.ms_machine.specs.Runs.{given}
 use Rattle.ms_machine.specs.Laws.{mark_of}

@@ -1,7 +1,9 @@
 ghost use Rattle.std.specs.Prelude.{◌≡◌, ◌+◌, ◌-◌, ◌<◌, length, slice_get, IfOk, OnOk, Some};
 ghost use Rattle.ms_classfile.specs.Instructions.{depth_after};
 ghost use Rattle.ms_machine.specs.Ints.{marks};
-ghost use Rattle.ms_machine.specs.Effects.{Combine, Int, Load, Push, effect};
+ghost use Rattle.ms_machine.specs.Instructions.{Combine, Load, OfInt, Push};
+ghost use Rattle.ms_machine.specs.Values.{Int};
+ghost use Rattle.ms_machine.specs.Effects.{effect};
 ghost use Rattle.ms_jvm.specs.Programs.{instr_of};
 ghost use Rattle.ms_jvm.specs.Turns.{IsReady, Leads, effect_of, here_with, locals_of, marked};
 
@@ -57,7 +59,7 @@ pub fn execute(
 fn load(local: u8, x: &Input, stack: &mut OperandStack) -> Result<Turn, NoMemory>
     requires { local < length x.now.kinds }
     ensures turn { IfOk result (λ turn. turn ≡ Turn.Next) }
-    ensures effect { OnOk result (effect marks (Load local) (here_with (marked x.now) stack.old) ≡ effect_of Turn.Next (here_with (marked x.now) stack.new)) }
+    ensures effect { OnOk result (effect marks (Load OfInt local) (here_with (marked x.now) stack.old) ≡ effect_of Turn.Next (here_with (marked x.now) stack.new)) }
     ensures depth { OnOk result (length stack.new ≡ length stack.old + 1) }
 {
     let int = parameter(x, usize::from(local));

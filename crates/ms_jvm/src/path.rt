@@ -1,7 +1,7 @@
 ghost use Rattle.std.specs.Prelude.{◌≡◌, ◌∷◌, ◌<◌, ◌≤◌, [], cond, length, IfOk, OnErr, Some};
 ghost use Rattle.ms_classfile.specs.Found.{view};
 ghost use Rattle.ms_classfile.specs.ThinFile.{IsThinMethod};
-ghost use Rattle.ms_machine.specs.Effects.{relation};
+ghost use Rattle.ms_machine.specs.Instructions.{relation};
 ghost use Rattle.ms_machine.specs.Runs.{end_of, string};
 ghost use Rattle.ms_jvm.specs.Ends.{path_end_of};
 ghost use Rattle.ms_jvm.specs.Programs as programs;

@@ -1,7 +1,8 @@
 -- A map of ints that another one undoes.
 use Rattle.std.proofs.Common.{◌≡◌, List, [], ◌∷◌, map, Option, Some, None, refl, ap}
 use Rattle.std.specs.Option.{option_map}
-use Rattle.ms_machine.specs.Effects.{Value, Int, Null, Array, Text, Throwable, Static, Memory, End, Returned, ReturnedVoid, Threw, InitFailed, Missing, Runaway, Deep, SymLength, HeapFull, Stuck, Test, Compares, Divides, Selects, Indexes}
+use Rattle.ms_machine.specs.Values.{Value, Int, Null, Array, Text, Throwable, Static, Memory, End, Returned, ReturnedVoid, Threw, InitFailed, Missing, Runaway, Deep, SymLength, HeapFull, Stuck}
+use Rattle.ms_machine.specs.Effects.{Test, Compares, Divides, Selects, Indexes}
 use Rattle.ms_machine.specs.Control.{Frame, Done, Goes, Ends}
 use Rattle.ms_machine.specs.Tests.{map_test}
 use Rattle.ms_machine.specs.Segments.{After, Choice, Over, Segment}

@@ -5,11 +5,12 @@ use Rattle.std.proofs.lemmas.List.{length-map}
 use Rattle.ms_words.specs.declared.item.Item.{Item}
 use Rattle.ms_words.specs.declared.thrown.Thrown.{Thrown}
 use Rattle.ms_machine.specs.Ints.{Ints}
-use Rattle.ms_machine.specs.Effects.{Value, Int, Null, Array, Text, Throwable, Memory, Deep, Doing, Moves, Calls, Initialises, Returns, Raises, Stops, Effect, Does, Asks, effect}
-use Rattle.ms_machine.specs.Control.{Program, View, Views, Initialiser, NoInitialiser, Begins, Foreign, Frame, State, Done, Goes, Ends, Then, Chooses, catching, caught, enters, entry_frame, goes_on, here_of, leaving, left_with, most_frames, onto, opened, perform, performed, place, returned_with, returns, start, step, throws, viewed}
+use Rattle.ms_machine.specs.Values.{Value, Int, Null, Array, Text, Throwable, Memory, Deep, Missing}
+use Rattle.ms_machine.specs.Effects.{Doing, Moves, Calls, Initialises, Returns, Raises, Stops, Effect, Does, Asks, effect, by_initialiser, initialiser_name}
+use Rattle.ms_machine.specs.Control.{Program, View, Views, Frame, State, Done, Goes, Ends, Then, Chooses, catching, caught, enters, entry_frame, goes_on, here_of, leaving, left_with, memory_at_start, most_frames, onto, perform, performed, place, returned_with, returns, start, step, throws, viewed}
 use Rattle.ms_machine.specs.Maps.{Respects, map_doing, map_done, map_effect, map_end, map_frame, map_locals, map_memory, map_state, map_step, map_value, map_values}
 use Rattle.ms_machine.specs.Tests.{map_test}
-use Rattle.ms_machine.proofs.EffectMap.{effect_map}
+use Rattle.ms_machine.proofs.EffectMap.{by_initialiser_map, effect_map}
 
 viewed_map : {A B : Type 0} (h : A → B) (o : Option View) (none : A) (go : View → A) (none' : B) (go' : View → B) → none' ≡ h none → ((view : View) → go' view ≡ h (go view))
     → viewed o none' go' ≡ h (viewed o none go)
@@ -89,7 +90,7 @@ module _ {V W : Type 0} (f : V → W) where
       ap (λ locals. enters view.callee locals None (map_frame f (left_with state.top here)) (map (map_frame f) state.below) (map_memory f here.memory)) (locals_map arguments)
       ∙ enters_map view.callee (map (λ v. Some v) arguments) None (left_with state.top here) state.below here.memory)
   perform_map P state (Initialises class here) =
-      viewed_map (map_done f) (P state.top.at) _ _ _ _ refl (λ view. enters_map view.initialiser [] (Some class) (left_with state.top here) state.below here.memory)
+      viewed_map (map_done f) (P state.top.at) _ _ _ _ refl (λ view. enters_map view.initialiser_first [] (Some class) (left_with state.top here) state.below here.memory)
   perform_map P state (Returns result memory) = returns_map P result memory state.top.initialises state.below
   perform_map P state (Raises number class memory) = throws_map P number class memory state.top state.below
   perform_map P state (Stops end) = refl
@@ -101,18 +102,20 @@ module _ {V W : Type 0} (f : V → W) where
   pub step_map : (I : Ints V) (J : Ints W) → Respects I J f → (P : Views) (state : State V) → step J P (map_state f state) ≡ map_step f (step I P state)
   step_map I J r P state =
       viewed_map (map_step f) (P state.top.at) _ _ _ _ refl (λ view.
-      ap (performed P (map_state f state)) (effect_map I J f r view.instr (here_of state)) ∙ performed_map P state (effect I view.instr (here_of state)))
+      ap (performed P (map_state f state)) (effect_map f I J r view.instr (here_of state)) ∙ performed_map P state (effect I view.instr (here_of state)))
 
   parameters_map : (parameters : List V) → map (λ a. Some (Int a)) (map f parameters) ≡ map_locals f (map (λ a. Some (Int a)) parameters)
   parameters_map [] = refl
   parameters_map (a ∷ parameters) = ap (λ locals. Some (Int (f a)) ∷ locals) (parameters_map parameters)
 
-  opened_map : (initialiser : Initialiser) (class : ℕ) (frame : Frame V) → opened initialiser class (map_frame f frame) ≡ map_done f (opened initialiser class frame)
-  opened_map NoInitialiser class frame = refl
-  opened_map (Begins item) class frame = refl
-  opened_map (Foreign name) class frame = refl
-
   pub start_map : (P : Program) (parameters : List V) → start P (map f parameters) ≡ map_done f (start P parameters)
   start_map P parameters =
-      ap (λ locals. opened P.entry.initialiser P.entry.class (record { at = P.entry.first; locals = locals; stack = []; initialises = None })) (parameters_map parameters)
-      ∙ opened_map P.entry.initialiser P.entry.class (entry_frame P.entry.first parameters)
+      let frame : Frame V = entry_frame P.entry.first parameters in
+      let memory : Memory V = memory_at_start P.entry.class in
+      let alone : Done V = Goes (record { top = frame; below = []; memory = memory }) in
+      let above : Done V = enters P.entry.initialiser_first [] (Some P.entry.class) frame [] memory in
+      let missing : Done V = Ends (Missing (initialiser_name P.entry.class_name)) in
+      (λ i. by_initialiser P.entry.initialiser (Goes (record { top = record { at = P.entry.first; locals = parameters_map parameters i; stack = []; initialises = None }; below = []; memory = memory_at_start P.entry.class }))
+      (enters P.entry.initialiser_first [] (Some P.entry.class) (record { at = P.entry.first; locals = parameters_map parameters i; stack = []; initialises = None }) [] (memory_at_start P.entry.class)) (map_done f missing))
+      ∙ ap (λ done. by_initialiser P.entry.initialiser (map_done f alone) done (map_done f missing)) (enters_map P.entry.initialiser_first [] (Some P.entry.class) frame [] memory)
+      ∙ by_initialiser_map (map_done f) P.entry.initialiser alone above missing

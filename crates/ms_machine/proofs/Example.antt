@@ -10,8 +10,9 @@ use Rattle.ms_words.specs.declared.operator.Rel.TheVariants.{Lt}
 use Rattle.ms_words.specs.Inputs.{Words}
 use Rattle.ms_terms.specs.Terms.{Constant, Param, Binary}
 use Rattle.ms_machine.specs.Ints.{ints}
-use Rattle.ms_machine.specs.Effects.{Instr, Push, Load, Combine, Compare, CompareZero, Less, Equal, NotEqual, ReturnValue, Returned}
-use Rattle.ms_machine.specs.Control.{Program, View, Views, NoInitialiser}
+use Rattle.ms_machine.specs.Instructions.{Absent, Instr, OfInt, Push, Load, Combine, Compare, CompareZero, Less, Equal, NotEqual, ReturnValue}
+use Rattle.ms_machine.specs.Values.{Returned}
+use Rattle.ms_machine.specs.Control.{Program, View, Views}
 use Rattle.ms_machine.specs.Segments.{most_instructions}
 use Rattle.ms_machine.specs.Runs.{Ended, Cut, end_of, footprint, segment_after, string, started, way}
 
@@ -39,7 +40,7 @@ next_in [] offset = None
 next_in (line ∷ lines) offset = cond (line.offset == offset) (Some (at offset)) (next_in lines offset)
 
 abbrev view_of : List Line → Line → View
-view_of lines line = record { instr = line.instr; next = next_in lines line.after; targets = items line.targets; handlers = []; callee = None; initialiser = None }
+view_of lines line = record { instr = line.instr; next = next_in lines line.after; targets = items line.targets; handlers = []; callee = None; initialiser_first = None }
 
 abbrev view_in : List Line → List Line → ℕ → Option View
 view_in all [] offset = None
@@ -50,15 +51,15 @@ view_at lines Entry = None
 view_at lines (At class method offset) = view_in lines lines offset
 
 abbrev method : List Kind → List Line → Program
-method kinds lines = record { entry = record { kinds = kinds; result = Some I; first = at 0; class = 0; initialiser = NoInitialiser }; view = view_at lines }
+method kinds lines = record { entry = record { kinds = kinds; result = Some I; first = at 0; class = 0; class_name = []; initialiser = Absent; initialiser_first = None }; view = view_at lines }
 
 -- TWO TRUTH VALUES: f(ZZ)I with iload_0, ifeq 6, iconst_1, ireturn, 6: iload_1, ifne 12, iconst_2, ireturn,
 -- 12: iconst_0, ireturn
 
 abbrev pub truths : Program
-truths = method (Z ∷ Z ∷ []) (line 0 (Load 0) 1 [] ∷ line 1 (CompareZero Equal) 4 (6 ∷ []) ∷ line 4 (Push (pos 1)) 5 [] ∷ line 5 ReturnValue 6 []
-    ∷ line 6 (Load 1) 7 [] ∷ line 7 (CompareZero NotEqual) 10 (12 ∷ []) ∷ line 10 (Push (pos 2)) 11 [] ∷ line 11 ReturnValue 12 []
-    ∷ line 12 (Push (pos 0)) 13 [] ∷ line 13 ReturnValue 14 [] ∷ [])
+truths = method (Z ∷ Z ∷ []) (line 0 (Load OfInt 0) 1 [] ∷ line 1 (CompareZero Equal) 4 (6 ∷ []) ∷ line 4 (Push (pos 1)) 5 [] ∷ line 5 (ReturnValue OfInt) 6 []
+    ∷ line 6 (Load OfInt 1) 7 [] ∷ line 7 (CompareZero NotEqual) 10 (12 ∷ []) ∷ line 10 (Push (pos 2)) 11 [] ∷ line 11 (ReturnValue OfInt) 12 []
+    ∷ line 12 (Push (pos 0)) 13 [] ∷ line 13 (ReturnValue OfInt) 14 [] ∷ [])
 
 abbrev pub two : ℤ → ℤ → Words
 two a b = record { kinds = Z ∷ Z ∷ []; words = a ∷ b ∷ [] }
@@ -110,9 +111,9 @@ footprint_10 = refl
 -- iconst_2, ireturn, 13: iconst_3, ireturn
 
 abbrev pub nested : Program
-nested = method (Z ∷ I ∷ []) (line 0 (Load 0) 1 [] ∷ line 1 (CompareZero NotEqual) 4 (6 ∷ []) ∷ line 4 (Push (pos 1)) 5 [] ∷ line 5 ReturnValue 6 []
-    ∷ line 6 (Load 1) 7 [] ∷ line 7 (Push (pos 5)) 8 [] ∷ line 8 (Compare Less) 11 (13 ∷ []) ∷ line 11 (Push (pos 2)) 12 [] ∷ line 12 ReturnValue 13 []
-    ∷ line 13 (Push (pos 3)) 14 [] ∷ line 14 ReturnValue 15 [] ∷ [])
+nested = method (Z ∷ I ∷ []) (line 0 (Load OfInt 0) 1 [] ∷ line 1 (CompareZero NotEqual) 4 (6 ∷ []) ∷ line 4 (Push (pos 1)) 5 [] ∷ line 5 (ReturnValue OfInt) 6 []
+    ∷ line 6 (Load OfInt 1) 7 [] ∷ line 7 (Push (pos 5)) 8 [] ∷ line 8 (Compare Less) 11 (13 ∷ []) ∷ line 11 (Push (pos 2)) 12 [] ∷ line 12 (ReturnValue OfInt) 13 []
+    ∷ line 13 (Push (pos 3)) 14 [] ∷ line 14 (ReturnValue OfInt) 15 [] ∷ [])
 
 abbrev pub truth_and : ℤ → ℤ → Words
 truth_and a b = record { kinds = Z ∷ I ∷ []; words = a ∷ b ∷ [] }
@@ -142,9 +143,9 @@ nested_end = refl
 -- iload_0, if_icmplt 15, iconst_0, ireturn, 15: iload_0, ireturn
 
 abbrev constants : Program
-constants = method (I ∷ []) (line 0 (Push (pos 2)) 1 [] ∷ line 1 (Push (pos 3)) 2 [] ∷ line 2 (Compare Less) 5 (6 ∷ []) ∷ line 6 (Load 0) 7 [] ∷ line 7 (Push (pos 1)) 8 []
-    ∷ line 8 (Combine Sub) 9 [] ∷ line 9 (Load 0) 10 [] ∷ line 10 (Compare Less) 13 (15 ∷ []) ∷ line 13 (Push (pos 0)) 14 [] ∷ line 14 ReturnValue 15 [] ∷ line 15 (Load 0) 16 []
-    ∷ line 16 ReturnValue 17 [] ∷ [])
+constants = method (I ∷ []) (line 0 (Push (pos 2)) 1 [] ∷ line 1 (Push (pos 3)) 2 [] ∷ line 2 (Compare Less) 5 (6 ∷ []) ∷ line 6 (Load OfInt 0) 7 [] ∷ line 7 (Push (pos 1)) 8 []
+    ∷ line 8 (Combine Sub) 9 [] ∷ line 9 (Load OfInt 0) 10 [] ∷ line 10 (Compare Less) 13 (15 ∷ []) ∷ line 13 (Push (pos 0)) 14 [] ∷ line 14 (ReturnValue OfInt) 15 [] ∷ line 15 (Load OfInt 0) 16 []
+    ∷ line 16 (ReturnValue OfInt) 17 [] ∷ [])
 
 abbrev one : ℤ → Words
 one a = record { kinds = I ∷ []; words = a ∷ [] }

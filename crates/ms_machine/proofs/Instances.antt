@@ -9,7 +9,7 @@ use Rattle.ms_words.specs.declared.operator.Rel.TheVariants.{Eq, Ne, Ge}
 use Rattle.ms_words.specs.Items.{firsts}
 use Rattle.ms_terms.specs.Terms.{Constant, Param}
 use Rattle.ms_machine.specs.Ints.{ints, marks, shadows}
-use Rattle.ms_machine.specs.Effects.{Int, Returned}
+use Rattle.ms_machine.specs.Values.{Int, Returned}
 use Rattle.ms_machine.specs.Runs.{Ended, Cut, after_arms, end_from, footprint, segment_after, started, string_from, way, with_entry}
 use Rattle.ms_machine.specs.Maps.{map_done, map_segment}
 use Rattle.ms_machine.specs.Laws.{condition, int_of, mark_arm, marked_start, shadow_after, shadow_of, shadow_started}

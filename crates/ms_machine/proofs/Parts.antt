@@ -6,8 +6,10 @@ use Rattle.ms_words.specs.declared.operator.Rel.TheVariants.{Eq, Ne, Uge}
 use Rattle.ms_words.specs.declared.thrown.Thrown.TheVariants.{Throwable as AnyThrowable, Arithmetic, RuntimeException, NullPointer}
 use Rattle.ms_terms.specs.Terms.{Term, Constant, Param}
 use Rattle.ms_machine.specs.Ints.{ints}
-use Rattle.ms_machine.specs.Effects.{Push, Int, Throwable, Memory, InitFailed, Threw, Runaway, Deep, Stuck, Divides, Selects, Indexes}
-use Rattle.ms_machine.specs.Control.{Views, Handler, Begins, Foreign, Frame, Goes, Ends, enters, memory_at_start, most_frames, returns, start, throws}
+use Rattle.ms_machine.specs.Instructions.{Foreign, Present, Push}
+use Rattle.ms_machine.specs.Values.{Int, Throwable, Memory, InitFailed, Threw, Runaway, Deep, Stuck}
+use Rattle.ms_machine.specs.Effects.{Divides, Selects, Indexes}
+use Rattle.ms_machine.specs.Control.{Views, Handler, Frame, Goes, Ends, enters, memory_at_start, most_frames, returns, start, throws}
 use Rattle.ms_machine.specs.Tests.{arm_of, literals}
 use Rattle.ms_machine.specs.Segments.{Over, segment_within}
 use Rattle.ms_machine.specs.Runs.{Cut, end_at, footprint, started}
@@ -46,7 +48,7 @@ frame_257 = refl
 -- THROWABLES: an instruction at 4 with handlers
 
 abbrev with_handlers : List Handler → Views
-with_handlers handlers item = Some (record { instr = Push (pos 1); next = Some (at 5); targets = []; handlers = handlers; callee = None; initialiser = None })
+with_handlers handlers item = Some (record { instr = Push (pos 1); next = Some (at 5); targets = []; handlers = handlers; callee = None; initialiser_first = None })
 
 -- the first handler that catches the class or one above it
 caught_above : throws (with_handlers (record { begins = at 7; catches = NullPointer } ∷ record { begins = at 8; catches = RuntimeException } ∷ record { begins = at 9; catches = AnyThrowable } ∷ []))
@@ -75,15 +77,16 @@ no_int = refl
 
 -- STARTS
 
-initialiser_first : start (record { entry = record truths.entry { initialiser = Begins (at 4) }; view = truths.view }) (Param 0 I ∷ [])
+initialiser_first : start (record { entry = record truths.entry { initialiser = Present; initialiser_first = Some (at 4) }; view = truths.view }) (Param 0 I ∷ [])
     ≡ Goes (record {
       top = record { at = at 4; locals = []; stack = []; initialises = Some 0 };
       below = record { at = at 0; locals = Some (Int (Param 0 I)) ∷ []; stack = []; initialises = None } ∷ [];
       memory = memory_at_start 0;
     })
+unfolding most_frames
 initialiser_first = refl
 
-foreign_initialiser : footprint (record { entry = record truths.entry { initialiser = Foreign (84 ∷ []) }; view = truths.view }) (two (pos 0) (pos 0)) [] ≡ Entry ∷ []
+foreign_initialiser : footprint (record { entry = record truths.entry { initialiser = Foreign }; view = truths.view }) (two (pos 0) (pos 0)) [] ≡ Entry ∷ []
 foreign_initialiser = refl
 
 -- OTHER TESTS

@@ -6,7 +6,9 @@ use Rattle.ms_words.specs.declared.thrown.Thrown.{Thrown}
 use Rattle.ms_words.specs.declared.item.Item.{Item}
 use Rattle.ms_words.specs.declared.kind.Kind.{Kind}
 use Rattle.ms_machine.specs.Ints.{Ints}
-use Rattle.ms_machine.specs.Effects.{Instr, Value, Int, Null, Array, Text, Throwable, Memory, Here, End, Returned, ReturnedVoid, Threw, InitFailed, Missing, Deep, Stuck, Where, Next, Target, Doing, Moves, Calls, Initialises, Returns, Raises, Stops, Test, Effect, Does, Asks, effect}
+use Rattle.ms_machine.specs.Instructions.{Initialiser, Instr}
+use Rattle.ms_machine.specs.Values.{Value, Int, Throwable, Memory, End, Returned, ReturnedVoid, Threw, InitFailed, Missing, Deep, Stuck}
+use Rattle.ms_machine.specs.Effects.{Here, Where, Next, Target, Doing, Moves, Calls, Initialises, Returns, Raises, Stops, Test, Effect, Does, Asks, by_initialiser, effect, initialiser_name}
 
 -- WHAT A STEP MAY READ OF THE PROGRAM
 
@@ -23,23 +25,18 @@ pub record View : Type 0 where
   pub targets : List Item
   pub handlers : List Handler
   pub callee : Option Item
-  pub initialiser : Option Item
+  pub initialiser_first : Option Item
 
--- the initialiser of a class: none, one with this first instruction, or one outside the subset, under
--- the name that a run ends with that misses it
-pub data Initialiser : Type 0 where
-  NoInitialiser : Initialiser
-  Begins : Item → Initialiser
-  Foreign : List ℕ → Initialiser
-
--- of the entry: the kinds of its parameters and of its result, its first instruction, its class and the
--- initialiser of that
+-- Of the entry: the kinds of its parameters and of its result, its first instruction; the number and the name of its
+-- class, whether that has an initialiser, and the first instruction of this.
 pub record EntryView : Type 0 where
   pub kinds : List Kind
   pub result : Option Kind
   pub first : Item
   pub class : ℕ
+  pub class_name : List ℕ
   pub initialiser : Initialiser
+  pub initialiser_first : Option Item
 
 -- all that a step may read
 abbrev pub Views : Type 0
@@ -112,7 +109,7 @@ leaving None otherwise = otherwise
 leaving (Some class) otherwise = Ends (InitFailed class)
 
 -- A throwable looks for a handler in the frame where it was thrown, and then in each frame below (JVMS
--- SE 8, section 2.10). Where it leaves the lowest frame it ends the run as thrown.
+-- SE 8, section 2.10). Where it leaves the frame of an initialiser, or the lowest frame, the run ends.
 abbrev pub throws : {V : Type 0} → Views → ℕ → Thrown → Memory V → Frame V → List (Frame V) → Done V
 throws P number class memory frame [] = viewed (P frame.at) (Ends Stuck) (λ view.
     caught (catching view.handlers class) (Throwable number class) frame [] memory (leaving frame.initialises (Ends (Threw class))))
@@ -124,10 +121,7 @@ throws P number class memory frame (caller ∷ below) = viewed (P frame.at) (End
 abbrev pub returned_with : {V : Type 0} → Option (Value V) → End V
 returned_with None = ReturnedVoid
 returned_with (Some (Int a)) = Returned a
-returned_with (Some Null) = Stuck
-returned_with (Some (Array number)) = Stuck
-returned_with (Some (Text bytes)) = Stuck
-returned_with (Some (Throwable number class)) = Stuck
+returned_with (Some other) = Stuck
 
 -- a value on a stack, where there is one
 abbrev pub onto : {V : Type 0} → Option (Value V) → List (Value V) → List (Value V)
@@ -161,7 +155,7 @@ perform P state (Moves where_to here) = viewed (P state.top.at) (Ends Stuck) (λ
 perform P state (Calls arguments here) = viewed (P state.top.at) (Ends Stuck) (λ view.
     enters view.callee (map (λ v. Some v) arguments) None (left_with state.top here) state.below here.memory)
 perform P state (Initialises class here) = viewed (P state.top.at) (Ends Stuck) (λ view.
-    enters view.initialiser [] (Some class) (left_with state.top here) state.below here.memory)
+    enters view.initialiser_first [] (Some class) (left_with state.top here) state.below here.memory)
 perform P state (Returns result memory) = returns P result memory state.top.initialises state.below
 perform P state (Raises number class memory) = throws P number class memory state.top state.below
 perform P state (Stops end) = Ends end
@@ -186,19 +180,17 @@ step I P state = viewed (P state.top.at) (Then (Ends Stuck)) (λ view. performed
 
 -- the memory in which this class alone is started
 abbrev pub memory_at_start : {V : Type 0} → ℕ → Memory V
-memory_at_start class = record { statics = []; started = class ∷ []; arrays = []; throwables = [] }
+memory_at_start class = record { statics = []; started = class ∷ []; arrays = []; throwables = 0 }
 
 -- the frame of the entry, with these parameters
 abbrev pub entry_frame : {V : Type 0} → Item → List V → Frame V
 entry_frame item parameters = record { at = item; locals = map (λ a. Some (Int a)) parameters; stack = []; initialises = None }
 
--- the entry's class is started, and its initialiser runs first
-abbrev pub opened : {V : Type 0} → Initialiser → ℕ → Frame V → Done V
-opened NoInitialiser class frame = Goes (record { top = frame; below = []; memory = memory_at_start class })
-opened (Begins item) class frame =
-    Goes (record { top = record { at = item; locals = []; stack = []; initialises = Some class }; below = frame ∷ []; memory = memory_at_start class })
-opened (Foreign name) class frame = Ends (Missing name)
-
--- one frame at the entry with the parameters
+-- One frame at the entry with the parameters; its class is started, and the initialiser of that runs first (JVMS SE 8,
+-- section 5.5).
 abbrev pub start : {V : Type 0} → Program → List V → Done V
-start P parameters = opened P.entry.initialiser P.entry.class (entry_frame P.entry.first parameters)
+start P parameters =
+    let frame = entry_frame P.entry.first parameters in
+    let memory = memory_at_start P.entry.class in
+    by_initialiser P.entry.initialiser (Goes (record { top = frame; below = []; memory = memory }))
+    (enters P.entry.initialiser_first [] (Some P.entry.class) frame [] memory) (Ends (Missing (initialiser_name P.entry.class_name)))

@@ -1,13 +1,17 @@
 -- Laws of the machine over whole runs, and the runs that they compare.
-use Rattle.std.specs.Prelude.{◌≡◌, false, ℕ, suc, ◌<◌, ◌↔◌, ℤ, List, [], ◌∷◌, ◌++◌, length, map}
-use Rattle.std.specs.List.{AllByRecursion}
+use Rattle.std.specs.Prelude.{◌≡◌, ◌⊎◌, Bool, true, false, not, ◌&&◌, IsTrue, ℕ, suc, ◌<◌, ◌≤◌, ◌↔◌, ℤ, List, [], ◌∷◌, ◌++◌, length, map, Some, IsSome, IfSome}
+use Rattle.std.specs.List.{AllByRecursion, list_all}
+use Rattle.ms_words.specs.declared.item.Item.{Item}
+use Rattle.ms_words.specs.declared.item.Item.TheVariants.{Entry}
 use Rattle.ms_words.specs.declared.kind.Kind.{Kind}
 use Rattle.ms_words.specs.Inputs.{Words, comes_before}
-use Rattle.ms_terms.specs.Terms.{Term, Param, is_constant, value}
+use Rattle.ms_words.specs.Relations.{int_eq}
+use Rattle.ms_terms.specs.Terms.{Term, Constant, Param, is_constant, value}
 use Rattle.ms_machine.specs.Ints.{Int, Marked, ints, marks, shadows}
 use Rattle.ms_machine.specs.Effects.{Test}
-use Rattle.ms_machine.specs.Control.{Program, Done, start}
-use Rattle.ms_machine.specs.Tests.{Literal, arm_of, arms_of, map_literal, map_test}
+use Rattle.ms_machine.specs.Instructions.{Instr, Switch}
+use Rattle.ms_machine.specs.Control.{Program, View, Views, Handler, Done, start}
+use Rattle.ms_machine.specs.Tests.{Literal, arm_of, arms_of, literals, map_literal, map_test}
 use Rattle.ms_machine.specs.Segments.{After, Choice, Over, Segment, done_within, segment_from}
 use Rattle.ms_machine.specs.Runs.{IsInputOf, IsLeast, IsMet, Takes, after_arms, end_from, end_of, footprint, given, segment_after, started, string, string_from, way}
 use Rattle.ms_machine.specs.Maps.{map_done, map_run_end, map_segment}
@@ -91,6 +95,30 @@ pub record SharesShadows (P : Program) (x y : Words) : Type 0 where
   pub segments : (p : List ℕ) → map_segment shadow_of (segment_after P x p) ≡ map_segment shadow_of (segment_after P y p)
   pub footprints : (p : List ℕ) → footprint P x p ≡ footprint P y p
 
+-- THE SWITCHES OF A PROGRAM
+
+-- the keys of an instruction, where it is a switch
+abbrev pub keys_of : Instr → List ℤ
+keys_of (Switch keys) = keys
+keys_of other = []
+
+-- whether no key stands twice
+abbrev pub keys_differ : List ℤ → Bool
+keys_differ [] = true
+keys_differ (key ∷ keys) = list_all (λ other. not (int_eq key other)) keys && keys_differ keys
+
+-- the keys of each instruction have this property
+abbrev pub AllKeys : (List ℤ → Type 0) → Views → Type 0
+AllKeys Q P = (item : Item) (view : View) → P item ≡ Some view → Q (keys_of view.instr)
+
+-- the keys of each switch differ
+abbrev pub KeysDiffer : Program → Type 0
+KeysDiffer P = AllKeys (λ keys. IsTrue (keys_differ keys)) P.view
+
+-- each switch has fewer than 65,535 keys
+abbrev pub KeysAreFew : Program → Type 0
+KeysAreFew P = AllKeys (λ keys. length keys < 65535) P.view
+
 -- WHICH INPUTS TAKE A STRING
 
 -- a choice comes, and has this arm
@@ -98,12 +126,57 @@ abbrev pub HasArm : {V : Type 0} → After V → ℕ → Type 0
 HasArm (Choice test arms) arm = arm < arms_of test
 HasArm (Over end) arm = ⊥
 
--- Where some words take p, and arm is one of the choice after it: x takes p with that arm exactly where
+-- Where the keys of each switch differ: where some words take p, and arm is one of the choice after it, x takes p with that
+-- arm exactly where
 -- it makes true all literals on the way through p and those of the arm. The way is that of each input that
 -- takes p, over the parameters.
 abbrev pub LawOfTheString : Program → Type 0
-LawOfTheString P = (x y : Words) → IsWhole x → IsWhole y → x.kinds ≡ y.kinds → (p : List ℕ) (arm : ℕ) → Takes P y p → HasArm (shadow_after P x.kinds p).after arm
+LawOfTheString P = KeysDiffer P → (x y : Words) → IsWhole x → IsWhole y → x.kinds ≡ y.kinds → (p : List ℕ) (arm : ℕ) → Takes P y p → HasArm (shadow_after P x.kinds p).after arm
     → Takes P x (p ++ arm ∷ []) ↔ AllByRecursion (IsMet x) (condition P x.kinds (p ++ arm ∷ []))
+
+-- HOW MANY ARMS AND LITERALS
+
+-- a test has an arm, and at most 65,535; and each arm has at most 65,535 literals
+pub record HasFewArms {V : Type 0} (constant : ℤ → V) (test : Test V) : Type 0 where
+  pub some : 0 < arms_of test
+  pub few : arms_of test ≤ 65535
+  pub literals : (arm : ℕ) → length (literals constant test arm) ≤ 65535
+
+-- what comes after a segment is such a choice, or the end
+abbrev pub ComesToFewArms : {V : Type 0} → (ℤ → V) → After V → Type 0
+ComesToFewArms constant (Choice test arms) = HasFewArms constant test
+ComesToFewArms constant (Over end) = Unit {0}
+
+-- Each segment of a program whose switches have fewer than 65,535 keys comes to such a choice, or to the end: that of an
+-- input, and that of terms, where the arms need not be those of any input.
+pub record ChoicesAreSmall (P : Program) : Type 0 where
+  pub of_inputs : KeysAreFew P → (x : Words) (p : List ℕ) → ComesToFewArms ints.constant (segment_after P x p).after
+  pub of_terms : KeysAreFew P → (kinds : List Kind) (p : List ℕ) → ComesToFewArms Constant (shadow_after P kinds p).after
+
+-- WHERE FOOTPRINTS LIE
+
+-- there is a view of the item
+abbrev pub HasView : Views → Item → Type 0
+HasView P item = IsSome (P item)
+
+-- each item of a view has a view
+pub record LeadsToViews (P : Views) (view : View) : Type 0 where
+  pub next : IfSome view.next (HasView P)
+  pub targets : AllByRecursion (HasView P) view.targets
+  pub handlers : AllByRecursion (λ (handler : Handler). HasView P handler.begins) view.handlers
+  pub callee : IfSome view.callee (HasView P)
+  pub initialiser : IfSome view.initialiser_first (HasView P)
+
+-- each item of a program has a view: those of its entry, and those of its views
+pub record IsClosed (P : Program) : Type 0 where
+  pub first : HasView P.view P.entry.first
+  pub initialiser : IfSome P.entry.initialiser_first (HasView P.view)
+  pub views : (item : Item) (view : View) → P.view item ≡ Some view → LeadsToViews P.view view
+
+-- an item of a footprint is the entry, or has a view; and there are at most 20,001
+pub record IsSmallAndThere (P : Program) (footprint : List Item) : Type 0 where
+  pub there : AllByRecursion (λ item. (item ≡ Entry) ⊎ HasView P.view item) footprint
+  pub few : length footprint ≤ 20001
 
 -- LEAST INPUTS
 

@@ -1,4 +1,6 @@
 pub mod Ints
+pub mod Instructions
+pub mod Values
 pub mod Effects
 pub mod Control
 pub mod Tests

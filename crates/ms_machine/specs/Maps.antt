@@ -4,7 +4,8 @@ use Rattle.std.specs.Option.{option_map}
 use Rattle.ms_words.specs.declared.operator.Un.{Un}
 use Rattle.ms_words.specs.declared.operator.Bin.{Bin}
 use Rattle.ms_machine.specs.Ints.{Ints}
-use Rattle.ms_machine.specs.Effects.{Value, Int, Null, Array, Text, Throwable, Static, Memory, Here, End, Returned, ReturnedVoid, Threw, InitFailed, Missing, Runaway, Deep, SymLength, HeapFull, Stuck, Doing, Moves, Calls, Initialises, Returns, Raises, Stops, Effect, Does, Asks}
+use Rattle.ms_machine.specs.Values.{Value, Int, Null, Array, Text, Throwable, Static, Memory, End, Returned, ReturnedVoid, Threw, InitFailed, Missing, Runaway, Deep, SymLength, HeapFull, Stuck}
+use Rattle.ms_machine.specs.Effects.{Here, Doing, Moves, Calls, Initialises, Returns, Raises, Stops, Effect, Does, Asks}
 use Rattle.ms_machine.specs.Control.{Frame, State, Done, Goes, Ends, Step, Then, Chooses}
 use Rattle.ms_machine.specs.Tests.{map_test}
 use Rattle.ms_machine.specs.Segments.{After, Choice, Over, Segment}

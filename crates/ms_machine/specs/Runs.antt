@@ -8,7 +8,8 @@ use Rattle.ms_words.specs.Items.{firsts}
 use Rattle.ms_words.specs.Relations.{related}
 use Rattle.ms_terms.specs.Terms.{Term, Param, value}
 use Rattle.ms_machine.specs.Ints.{Ints, Int, ints}
-use Rattle.ms_machine.specs.Effects.{Test, End}
+use Rattle.ms_machine.specs.Values.{End}
+use Rattle.ms_machine.specs.Effects.{Test}
 use Rattle.ms_machine.specs.Control.{Program, Views, Done, Ends, start}
 use Rattle.ms_machine.specs.Tests.{Literal, arm_of, literals, map_test}
 use Rattle.ms_machine.specs.Segments.{After, Choice, Over, Segment, segment_from}

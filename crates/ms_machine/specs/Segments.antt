@@ -2,7 +2,8 @@
 use Rattle.std.specs.Prelude.{ℕ, zero, suc, ℤ, List, [], ◌∷◌, Option, Some, None}
 use Rattle.ms_words.specs.declared.item.Item.{Item}
 use Rattle.ms_machine.specs.Ints.{Ints}
-use Rattle.ms_machine.specs.Effects.{Test, End, Runaway}
+use Rattle.ms_machine.specs.Values.{End, Runaway}
+use Rattle.ms_machine.specs.Effects.{Test}
 use Rattle.ms_machine.specs.Control.{Views, Done, Goes, Ends, Step, Then, Chooses, step}
 use Rattle.ms_machine.specs.Tests.{arm_of, known_test}
 

@@ -7,7 +7,8 @@ use Rattle.ms_words.specs.declared.operator.Rel.{Rel}
 use Rattle.ms_words.specs.declared.operator.Rel.TheVariants.{Eq, Ne, Uge}
 use Rattle.ms_words.specs.Relations.{int_eq, related}
 use Rattle.ms_machine.specs.Ints.{Ints}
-use Rattle.ms_machine.specs.Effects.{Comparison, Equal, NotEqual, Less, AtLeast, Greater, AtMost, relation, Test, Compares, Divides, Selects, Indexes}
+use Rattle.ms_machine.specs.Instructions.{Comparison, Equal, NotEqual, Less, AtLeast, Greater, AtMost, relation}
+use Rattle.ms_machine.specs.Effects.{Test, Compares, Divides, Selects, Indexes}
 
 -- ARMS
 

@@ -1,7 +1,11 @@
-ghost use Rattle.std.specs.Prelude.{◌≡◌};
+ghost use Rattle.std.specs.Prelude.{◌≡◌, List, ℕ};
 ghost use Rattle.ms_words.specs.Inputs.{Words};
 ghost use Rattle.ms_machine.specs.Control.{Program};
+ghost use Rattle.ms_machine.specs.Runs.{footprint};
 ghost use Rattle.ms_machine.specs.Laws.{
+  ChoicesAreSmall,
+  IsClosed,
+  IsSmallAndThere,
   IsWhole,
   LawOfTheString,
   LeastExists,
@@ -36,11 +40,23 @@ pub fn inputs_share_shadows()
     ensures { (P : Program) (x y : Words) → IsWhole x → IsWhole y → x.kinds ≡ y.kinds → SharesShadows P x y }
 {}
 
-/// Where some input takes a string and an arm is one of the choice that comes after it, an input of the
-/// same kinds takes the string with that arm exactly where it makes true each literal on the way through
-/// the string and those of the arm.
+/// Where the keys of each switch differ, some input takes a string, and an arm is one of the choice that
+/// comes after it: an input of the same kinds takes the string with that arm exactly where it makes true
+/// each literal on the way through the string and those of the arm.
 pub fn takes_where_literals_hold()
     ensures { (P : Program) → LawOfTheString P }
+{}
+
+/// Where each switch has fewer than 65,535 keys, what comes after a segment is the end, or a choice of
+/// 1 to 65,535 arms, each with at most 65,535 literals.
+pub fn choices_are_small()
+    ensures { (P : Program) → ChoicesAreSmall P }
+{}
+
+/// Where each item of a program's views has a view, each item of a footprint is the entry or has one, and
+/// there are at most 20,001.
+pub fn footprints_have_views()
+    ensures { (P : Program) → IsClosed P → (x : Words) (p : List ℕ) → IsSmallAndThere P (footprint P x p) }
 {}
 
 /// An input that takes a string, and that its least input does not come before, is the least input.

@@ -2,8 +2,8 @@
 //! segments, strings and footprints are (JVMS SE 8, chapters 2 and 6). It is one machine for any kind
 //! of ints: words with shadow terms, terms alone, or words with a mark.
 //!
-//! So far it has the instructions that push a constant, load a local, compute with one int or two, compare and
-//! return.
+//! It has the instructions that are decoded: of ints, arrays of ints, throwables, strings as their
+//! messages, static fields and static methods.
 //!
 //! Its laws over whole runs, of any program, are the contracts of functions that have no effect.
 #![tactic(auto)]
@@ -11,6 +11,7 @@
 mod laws;
 
 pub use laws::{
-    inputs_share_shadows, least_exists, least_is_first, least_is_unique, marks_are_right,
-    shadows_need_no_input, takes_where_literals_hold, words_are_values,
+    choices_are_small, footprints_have_views, inputs_share_shadows, least_exists, least_is_first,
+    least_is_unique, marks_are_right, shadows_need_no_input, takes_where_literals_hold,
+    words_are_values,
 };

@@ -1,5 +1,5 @@
--- What is said of each view of a program: the items in it have views, and its instruction is one of the subset.
-use Rattle.std.specs.Prelude.{◌≡◌, ◌⊎◌, ℕ, suc, ◌^◌, ◌<◌, List, [], ◌∷◌, length, true, Option, Some, IfSome, IsSome, IsTrue, All, ℤ}
+-- What is said of each view of a program: the items in it are instructions, and its own instruction is one of the subset.
+use Rattle.std.specs.Prelude.{◌≡◌, ◌⊎◌, ℕ, suc, ◌^◌, ◌<◌, List, [], ◌∷◌, length, true, Option, Some, IfSome, IsSome, is_some, IsTrue, All, ℤ}
 use Rattle.ms_words.specs.declared.descriptor.FieldType.{FieldType}
 use Rattle.ms_words.specs.declared.item.Item.{Item}
 use Rattle.ms_words.specs.declared.thrown.Thrown.{Thrown}
@@ -18,26 +18,26 @@ use Rattle.ms_program.specs.declared.view.Initialiser.{Initialiser}
 use Rattle.ms_program.specs.declared.view.Initialiser.TheVariants.{Present}
 use Rattle.ms_program.specs.declared.view.MemberPart.{MemberPart}
 use Rattle.ms_program.specs.Programs.{Program}
-use Rattle.ms_program.specs.Views.{Name, Word, Text, Throwable, Member, View, has_view}
+use Rattle.ms_program.specs.Views.{Name, Word, Text, Throwable, Member, View, step_of}
 
 -- WHERE VIEWS LEAD
 
--- the item has a view
-abbrev pub HasView : Program → Item → Type 0
-HasView P item = IsTrue (has_view P item)
+-- an instruction starts at the item
+abbrev pub IsInstruction : Program → Item → Type 0
+IsInstruction P item = IsTrue (is_some (step_of P item))
 
--- each item that stands in a view has a view itself
+-- each item that stands in a view is an instruction, and so has a view itself
 pub record LeadsToViews (P : Program) (v : View) : Type 0 where
   -- the instruction behind it
-  pub successor : IfSome v.successor (HasView P)
+  pub successor : IfSome v.successor (IsInstruction P)
   -- each of its targets
-  pub targets : All (HasView P) v.targets
+  pub targets : All (IsInstruction P) v.targets
   -- the first instruction of each handler that covers it
-  pub handlers : All (λ part. HasView P part.handler) v.handlers
+  pub handlers : All (λ part. IsInstruction P part.handler) v.handlers
   -- the first instruction of the method that it calls, or of the entry
-  pub first_item : IfSome v.first_item (HasView P)
+  pub first_item : IfSome v.first_item (IsInstruction P)
   -- the first instruction of the initialiser
-  pub initialiser_item : IfSome v.initialiser_item (HasView P)
+  pub initialiser_item : IfSome v.initialiser_item (IsInstruction P)
 
 -- the first instruction is known of each method that is called and there, and of each initialiser that isn't foreign
 pub record HasFirstItems (v : View) : Type 0 where

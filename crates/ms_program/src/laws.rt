@@ -26,8 +26,8 @@ pub fn files_are_read()
     codes_are_read();
 }
 
-/// The law of views: each item that stands in the view of an item of a program has a view itself. It does
-/// nothing.
+/// The law of views: each item that stands in the view of an item of a program is an instruction, and so has
+/// a view itself. It does nothing.
 pub fn views_lead_to_views()
     ensures { (P : Program) (item : Item) (v : View) → IsProgram P → view P item ≡ Some v → LeadsToViews P v }
 {

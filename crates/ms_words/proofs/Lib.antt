@@ -1,4 +1,5 @@
 pub mod Places
 mod Computed
+pub mod Wrapping
 pub mod Descriptors
 pub mod EntryParts

@@ -4,7 +4,7 @@ use Rattle.ms_words.specs.declared.end.Ended.TheVariants as ended
 use Rattle.ms_words.specs.declared.end.PathEnd.TheVariants as path_end
 use Rattle.ms_classfile.specs.Found.{view}
 use Rattle.ms_machine.specs.Ints.{Marked}
-use Rattle.ms_machine.specs.Effects.{Returned}
+use Rattle.ms_machine.specs.Values.{Returned}
 use Rattle.ms_machine.specs.Runs.{Ended, Cut}
 use Rattle.ms_jvm.specs.Programs.{comparison_of, program_of}
 use Rattle.ms_jvm.proofs.Following.{IsRun, arm_shorter, follows_branch, follows_move, follows_start, run_cut, run_returned}
