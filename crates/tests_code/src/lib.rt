@@ -1,4 +1,4 @@
-//! Tests of codes.
+//! Tests of codes, and of the words that they compute with.
 //!
 //! The expected texts come from the Java Virtual Machine Specification, SE 8, sections 4.7.3, 4.9.1 and
 //! 6.5, from the rules for faults, and from `javap`.
@@ -18,3 +18,5 @@ mod opcodes;
 mod switches;
 #[cfg(test)]
 mod telling;
+#[cfg(test)]
+mod words;

@@ -5,7 +5,10 @@ use crate::telling::tell_ids;
 use crate::views::six;
 use ms_classfile::{class_files_are_read, members_are_distinct, pools_lie_in_their_file};
 use ms_code::codes_are_read;
-use ms_program::{File, MethodBody, Program, files_are_read, first_fault, read_file};
+use ms_program::{
+    File, MethodBody, Program, files_are_read, first_fault, instructions_are_of_the_subset,
+    members_have_first_items, read_file, views_lead_to_views,
+};
 use std::alloc::{AllocError, Global};
 use std::fmt::Write;
 use std::test::Fail;
@@ -134,4 +137,7 @@ fn laws_do_nothing(_rt: HostRuntime) {
     members_are_distinct();
     pools_lie_in_their_file();
     codes_are_read();
+    views_lead_to_views();
+    members_have_first_items();
+    instructions_are_of_the_subset();
 }
