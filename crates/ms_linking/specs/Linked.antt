@@ -1,5 +1,5 @@
 -- What the machine sees of a program: of each view the instruction by what it does, and where it may go.
-use Rattle.std.specs.Prelude.{ℕ, not, List, map, codes, Option, Some, None, option_map, option_and_then, slice_get}
+use Rattle.std.specs.Prelude.{ℕ, pos, not, List, map, codes, Option, Some, None, option_map, option_and_then, slice_get, unwrap_or}
 use Rattle.std.specs.Str.{bytes_eq}
 use Rattle.ms_words.specs.declared.descriptor.EntryPart.{EntryPart}
 use Rattle.ms_words.specs.declared.item.Item.{Item}
@@ -51,7 +51,7 @@ member_of numbers class name descriptor part initialiser = record {
 -- a static field is read, where it is named, its type is known, and what a view says of members
 abbrev pub get_static : Numbers → Option Name → Option MemberPart → Option state.Initialiser → Option Instr
 get_static numbers (Some (views.Member class name descriptor)) (Some part) (Some initialiser) =
-    option_map (λ type. GetStatic (member_of numbers class name descriptor part initialiser) type part.initial) (field_type_of descriptor)
+    option_map (λ type. GetStatic (member_of numbers class name descriptor part initialiser) type (unwrap_or part.initial (pos 0))) (field_type_of descriptor)
 get_static numbers named part initialiser = None
 
 -- or stored, likewise

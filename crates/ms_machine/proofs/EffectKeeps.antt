@@ -181,7 +181,7 @@ module _ {V : Type 0} (Q : List ℤ → Type 0) where
   effect_short I (Switch keys) here q short = on_int_short here.stack _ (λ a below. (q, λ arm. short))
   effect_short I (ReturnValue sort) here q short = on_top_short here.stack _ (λ v below. short)
   effect_short I ReturnVoid here q short = short
-  effect_short I (GetStatic member type initial) here q short = access_short member (field_name member) here (get_static I member initial) short (λ class here short. short)
+  effect_short I (GetStatic member type initial) here q short = access_short member (field_name member) here (get_static I member type initial) short (λ class here short. short)
   effect_short I (PutStatic member type) here q short = access_short member (field_name member) here (put_static member) short (λ class here short. on_top_short here.stack _ (λ v below. short))
   effect_short I (Invoke member signature) here q short =
       access_short member (method_name member) here (invoke (length signature.parameters)) short (λ class here short. taking_short (length signature.parameters) here.stack _ (λ values below. short))

@@ -3,6 +3,8 @@ use Rattle.std.proofs.Common.{◌≡◌, ℕ, zero, suc, ◌+◌, ℤ, pos, negs
 use Rattle.std.specs.Option.{option_map}
 use Rattle.std.proofs.lemmas.List.{length-map, map-append}
 use Rattle.std.proofs.lemmas.Option.{slice_get-map}
+use Rattle.ms_words.specs.declared.descriptor.FieldType.{FieldType}
+use Rattle.ms_words.specs.declared.descriptor.FieldType.TheVariants as types
 use Rattle.ms_words.specs.declared.operator.Bin.TheVariants.{Add}
 use Rattle.ms_words.specs.declared.thrown.Thrown.{Thrown}
 use Rattle.ms_words.specs.declared.thrown.Thrown.TheVariants as throwables
@@ -147,15 +149,15 @@ module _ {V W : Type 0} (f : V → W) where
   -- WHAT EACH INSTRUCTION DOES
 
   module _ (I : Ints V) (J : Ints W) (r : Respects I J f) where
-    first_map : (initial : Option ℤ) → first_value J initial ≡ map_value f (first_value I initial)
-    first_map None = refl
-    first_map (Some word) = ap Int (sym (r.constant word))
+    first_map : (type : FieldType) (initial : ℤ) → first_value J type initial ≡ map_value f (first_value I type initial)
+    first_map (types.Int kind) initial = ap Int (sym (r.constant initial))
+    first_map types.IntArray initial = refl
 
-    get_static_map : (member : Member) (initial : Option ℤ) (class : ℕ) (here : Here V) → get_static J member initial class (map_here f here) ≡ map_effect f (get_static I member initial class here)
-    get_static_map member initial class here =
+    get_static_map : (member : Member) (type : FieldType) (initial : ℤ) (class : ℕ) (here : Here V) → get_static J member type initial class (map_here f here) ≡ map_effect f (get_static I member type initial class here)
+    get_static_map member type initial class here =
         ap (λ v. Does (next (map_here f here) (v ∷ map_values f here.stack)))
-        (ap (static_value (map (map_static f) here.memory.statics) class member.name member.descriptor) (first_map initial)
-        ∙ static_value_map f here.memory.statics class member.name member.descriptor (first_value I initial))
+        (ap (static_value (map (map_static f) here.memory.statics) class member.name member.descriptor) (first_map type initial)
+        ∙ static_value_map f here.memory.statics class member.name member.descriptor (first_value I type initial))
 
     make_array_map : (here : Here V) (below : List (Value V)) (size : ℕ) → make_array J (map_here f here) (map_values f below) size ≡ map_doing f (make_array I here below size)
     make_array_map here below size =
@@ -207,7 +209,7 @@ module _ {V W : Type 0} (f : V → W) where
     effect_map (Switch keys) here = on_int_map here.stack _ _ (λ a below. refl)
     effect_map (ReturnValue sort) here = on_top_map here.stack _ _ (λ v below. refl)
     effect_map ReturnVoid here = refl
-    effect_map (GetStatic member type initial) here = access_map member (field_name member) here (get_static I member initial) (get_static J member initial) (get_static_map member initial)
+    effect_map (GetStatic member type initial) here = access_map member (field_name member) here (get_static I member type initial) (get_static J member type initial) (get_static_map member type initial)
     effect_map (PutStatic member type) here = access_map member (field_name member) here (put_static member) (put_static member) (put_static_map member)
     effect_map (Invoke member signature) here =
         let parameters = length signature.parameters in

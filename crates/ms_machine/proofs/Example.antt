@@ -1,63 +1,25 @@
 -- The definitions computed on small methods.
-use Rattle.std.proofs.Common.{◌≡◌, ℕ, ◌==◌, List, [], ◌∷◌, ℤ, pos, negsuc, Option, Some, None, cond, refl}
+use Rattle.std.proofs.Common.{◌≡◌, [], ◌∷◌, ℤ, pos, negsuc, refl}
 use Rattle.std.specs.Int.{int_wrap}
-use Rattle.ms_words.specs.declared.item.Item.{Item}
-use Rattle.ms_words.specs.declared.item.Item.TheVariants.{Entry, At}
-use Rattle.ms_words.specs.declared.kind.Kind.{Kind}
+use Rattle.ms_words.specs.declared.item.Item.TheVariants.{Entry}
 use Rattle.ms_words.specs.declared.kind.Kind.TheVariants.{Z, I}
 use Rattle.ms_words.specs.declared.operator.Bin.TheVariants.{Sub}
 use Rattle.ms_words.specs.declared.operator.Rel.TheVariants.{Lt}
 use Rattle.ms_words.specs.Inputs.{Words}
 use Rattle.ms_terms.specs.Terms.{Constant, Param, Binary}
 use Rattle.ms_machine.specs.Ints.{ints}
-use Rattle.ms_machine.specs.Instructions.{Absent, Instr, OfInt, Push, Load, Combine, Compare, CompareZero, Less, Equal, NotEqual, ReturnValue}
+use Rattle.ms_machine.specs.Instructions.{OfInt, Skip, Push, Load, Combine, Compare, CompareZero, Less, Equal, NotEqual, ReturnValue}
 use Rattle.ms_machine.specs.Values.{Returned}
-use Rattle.ms_machine.specs.Control.{Program, View, Views}
+use Rattle.ms_machine.specs.Control.{Program}
 use Rattle.ms_machine.specs.Segments.{most_instructions}
 use Rattle.ms_machine.specs.Runs.{Ended, Cut, end_of, footprint, segment_after, string, started, way}
-
--- A METHOD, instruction by instruction: its offset, what it is, the offset after it, its targets
-
-pub record Line : Type 0 where
-  pub offset : ℕ
-  pub instr : Instr
-  pub after : ℕ
-  pub targets : List ℕ
-
-abbrev line : ℕ → Instr → ℕ → List ℕ → Line
-line offset instr after targets = record { offset = offset; instr = instr; after = after; targets = targets }
-
-abbrev pub at : ℕ → Item
-at offset = At 0 0 offset
-
-abbrev items : List ℕ → List Item
-items [] = []
-items (offset ∷ offsets) = at offset ∷ items offsets
-
--- the instruction there, unless the code ends there
-abbrev next_in : List Line → ℕ → Option Item
-next_in [] offset = None
-next_in (line ∷ lines) offset = cond (line.offset == offset) (Some (at offset)) (next_in lines offset)
-
-abbrev view_of : List Line → Line → View
-view_of lines line = record { instr = line.instr; next = next_in lines line.after; targets = items line.targets; handlers = []; callee = None; initialiser_first = None }
-
-abbrev view_in : List Line → List Line → ℕ → Option View
-view_in all [] offset = None
-view_in all (line ∷ lines) offset = cond (line.offset == offset) (Some (view_of all line)) (view_in all lines offset)
-
-abbrev view_at : List Line → Views
-view_at lines Entry = None
-view_at lines (At class method offset) = view_in lines lines offset
-
-abbrev method : List Kind → List Line → Program
-method kinds lines = record { entry = record { kinds = kinds; result = Some I; first = at 0; class = 0; class_name = []; initialiser = Absent; initialiser_first = None }; view = view_at lines }
+use Rattle.ms_machine.proofs.Methods.{alone, at, constant, line, one_int, parameter}
 
 -- TWO TRUTH VALUES: f(ZZ)I with iload_0, ifeq 6, iconst_1, ireturn, 6: iload_1, ifne 12, iconst_2, ireturn,
 -- 12: iconst_0, ireturn
 
 abbrev pub truths : Program
-truths = method (Z ∷ Z ∷ []) (line 0 (Load OfInt 0) 1 [] ∷ line 1 (CompareZero Equal) 4 (6 ∷ []) ∷ line 4 (Push (pos 1)) 5 [] ∷ line 5 (ReturnValue OfInt) 6 []
+truths = alone (Z ∷ Z ∷ []) (line 0 (Load OfInt 0) 1 [] ∷ line 1 (CompareZero Equal) 4 (6 ∷ []) ∷ line 4 (Push (pos 1)) 5 [] ∷ line 5 (ReturnValue OfInt) 6 []
     ∷ line 6 (Load OfInt 1) 7 [] ∷ line 7 (CompareZero NotEqual) 10 (12 ∷ []) ∷ line 10 (Push (pos 2)) 11 [] ∷ line 11 (ReturnValue OfInt) 12 []
     ∷ line 12 (Push (pos 0)) 13 [] ∷ line 13 (ReturnValue OfInt) 14 [] ∷ [])
 
@@ -85,7 +47,7 @@ cut_00 : end_of truths (two (pos 0) (pos 0)) 1 ≡ Cut
 unfolding most_instructions
 cut_00 = refl
 
-end_00 : end_of truths (two (pos 0) (pos 0)) 2 ≡ Ended (Returned (record { word = pos 2; shadow = Constant (pos 2) }))
+end_00 : end_of truths (two (pos 0) (pos 0)) 2 ≡ Ended (Returned (constant (pos 2)))
 unfolding most_instructions
 end_00 = refl
 
@@ -111,7 +73,7 @@ footprint_10 = refl
 -- iconst_2, ireturn, 13: iconst_3, ireturn
 
 abbrev pub nested : Program
-nested = method (Z ∷ I ∷ []) (line 0 (Load OfInt 0) 1 [] ∷ line 1 (CompareZero NotEqual) 4 (6 ∷ []) ∷ line 4 (Push (pos 1)) 5 [] ∷ line 5 (ReturnValue OfInt) 6 []
+nested = alone (Z ∷ I ∷ []) (line 0 (Load OfInt 0) 1 [] ∷ line 1 (CompareZero NotEqual) 4 (6 ∷ []) ∷ line 4 (Push (pos 1)) 5 [] ∷ line 5 (ReturnValue OfInt) 6 []
     ∷ line 6 (Load OfInt 1) 7 [] ∷ line 7 (Push (pos 5)) 8 [] ∷ line 8 (Compare Less) 11 (13 ∷ []) ∷ line 11 (Push (pos 2)) 12 [] ∷ line 12 (ReturnValue OfInt) 13 []
     ∷ line 13 (Push (pos 3)) 14 [] ∷ line 14 (ReturnValue OfInt) 15 [] ∷ [])
 
@@ -135,36 +97,33 @@ nested_cut : end_of nested (truth_and (pos 1) (pos 5)) 0 ≡ Cut
 unfolding most_instructions
 nested_cut = refl
 
-nested_end : end_of nested (truth_and (pos 1) (pos 5)) 2 ≡ Ended (Returned (record { word = pos 2; shadow = Constant (pos 2) }))
+nested_end : end_of nested (truth_and (pos 1) (pos 5)) 2 ≡ Ended (Returned (constant (pos 2)))
 unfolding most_instructions
 nested_end = refl
 
--- A COMPARISON OF CONSTANTS IS NO CHOICE: f(I)I with iconst_2, iconst_3, if_icmplt 6, 6: iload_0, iconst_1, isub,
+-- A COMPARISON OF CONSTANTS IS NO CHOICE: f(I)I with iconst_2, iconst_3, if_icmplt 6, nop, 6: iload_0, iconst_1, isub,
 -- iload_0, if_icmplt 15, iconst_0, ireturn, 15: iload_0, ireturn
 
 abbrev constants : Program
-constants = method (I ∷ []) (line 0 (Push (pos 2)) 1 [] ∷ line 1 (Push (pos 3)) 2 [] ∷ line 2 (Compare Less) 5 (6 ∷ []) ∷ line 6 (Load OfInt 0) 7 [] ∷ line 7 (Push (pos 1)) 8 []
-    ∷ line 8 (Combine Sub) 9 [] ∷ line 9 (Load OfInt 0) 10 [] ∷ line 10 (Compare Less) 13 (15 ∷ []) ∷ line 13 (Push (pos 0)) 14 [] ∷ line 14 (ReturnValue OfInt) 15 [] ∷ line 15 (Load OfInt 0) 16 []
-    ∷ line 16 (ReturnValue OfInt) 17 [] ∷ [])
-
-abbrev one : ℤ → Words
-one a = record { kinds = I ∷ []; words = a ∷ [] }
+constants = alone (I ∷ []) (line 0 (Push (pos 2)) 1 [] ∷ line 1 (Push (pos 3)) 2 [] ∷ line 2 (Compare Less) 5 (6 ∷ []) ∷ line 5 Skip 6 []
+    ∷ line 6 (Load OfInt 0) 7 [] ∷ line 7 (Push (pos 1)) 8 [] ∷ line 8 (Combine Sub) 9 [] ∷ line 9 (Load OfInt 0) 10 [] ∷ line 10 (Compare Less) 13 (15 ∷ [])
+    ∷ line 13 (Push (pos 0)) 14 [] ∷ line 14 (ReturnValue OfInt) 15 [] ∷ line 15 (Load OfInt 0) 16 [] ∷ line 16 (ReturnValue OfInt) 17 [] ∷ [])
 
 -- x - 1 < x but for the least word, where it wraps
-string_5 : string constants (one (pos 5)) 8 ≡ 1 ∷ []
+string_5 : string constants (one_int (pos 5)) 8 ≡ 1 ∷ []
 unfolding most_instructions int_wrap
 string_5 = refl
 
-string_least : string constants (one (negsuc 2147483647)) 8 ≡ 0 ∷ []
+string_least : string constants (one_int (negsuc 2147483647)) 8 ≡ 0 ∷ []
 unfolding most_instructions int_wrap
 string_least = refl
 
-end_5 : end_of constants (one (pos 5)) 8 ≡ Ended (Returned (record { word = pos 5; shadow = Param 0 I }))
+end_5 : end_of constants (one_int (pos 5)) 8 ≡ Ended (Returned (parameter 0 (pos 5)))
 unfolding most_instructions int_wrap
 end_5 = refl
 
 -- what arm 1 of the one choice says
-way_1 : way ints constants.view (started constants (one (pos 5))) (1 ∷ [])
-    ≡ record { rel = Lt; a = record { word = pos 4; shadow = Binary Sub (Param 0 I) (Constant (pos 1)) }; b = record { word = pos 5; shadow = Param 0 I } } ∷ []
+way_1 : way ints constants.view (started constants (one_int (pos 5))) (1 ∷ [])
+    ≡ record { rel = Lt; a = record { word = pos 4; shadow = Binary Sub (Param 0 I) (Constant (pos 1)) }; b = parameter 0 (pos 5) } ∷ []
 unfolding most_instructions int_wrap
 way_1 = refl

@@ -3,7 +3,6 @@ use Rattle.std.proofs.Common.{◌≡◌, [], ◌∷◌, pos, negsuc, true, Some,
 use Rattle.ms_machine.specs.Segments.{done_within, most_instructions}
 use Rattle.ms_machine.specs.Control.{Goes, memory_at_start}
 use Rattle.ms_machine.specs.Tests.{map_literal}
-use Rattle.ms_words.specs.declared.item.Item.TheVariants.{At}
 use Rattle.ms_words.specs.declared.kind.Kind.TheVariants.{Z, I}
 use Rattle.ms_words.specs.declared.operator.Rel.TheVariants.{Eq, Ne, Ge}
 use Rattle.ms_words.specs.Items.{firsts}
@@ -13,6 +12,7 @@ use Rattle.ms_machine.specs.Values.{Int, Returned}
 use Rattle.ms_machine.specs.Runs.{Ended, Cut, after_arms, end_from, footprint, segment_after, started, string_from, way, with_entry}
 use Rattle.ms_machine.specs.Maps.{map_done, map_segment}
 use Rattle.ms_machine.specs.Laws.{condition, int_of, mark_arm, marked_start, shadow_after, shadow_of, shadow_started}
+use Rattle.ms_machine.proofs.Methods.{at}
 use Rattle.ms_machine.proofs.Example.{nested, truth_and, truths, two}
 
 -- WORDS ARE VALUES
@@ -32,7 +32,7 @@ nested_steps = refl
 
 nested_stack : done_within shadows nested.view 2 (after_arms shadows nested.view (shadow_started nested (Z ∷ I ∷ [])) (1 ∷ []))
     ≡ Goes (record {
-      top = record { at = At 0 0 8; locals = Some (Int (Param 0 Z)) ∷ Some (Int (Param 1 I)) ∷ []; stack = Int (Constant (pos 5)) ∷ Int (Param 1 I) ∷ []; initialises = None };
+      top = record { at = at 8; locals = Some (Int (Param 0 Z)) ∷ Some (Int (Param 1 I)) ∷ []; stack = Int (Constant (pos 5)) ∷ Int (Param 1 I) ∷ []; initialises = None };
       below = [];
       memory = memory_at_start 0;
     })

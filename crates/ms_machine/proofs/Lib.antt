@@ -1,6 +1,12 @@
+pub mod Methods
 mod Example
 mod Parts
 mod Instances
+pub mod OneFrame
+mod EachGroup
+mod EachMember
+mod Scenes
+mod ClassScenes
 pub mod ValueMap
 pub mod EffectMap
 pub mod ControlMap

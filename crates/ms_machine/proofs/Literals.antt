@@ -8,7 +8,7 @@ use Rattle.ms_words.specs.Inputs.{Words}
 use Rattle.ms_terms.specs.Terms.{Term, Constant, value}
 use Rattle.ms_machine.specs.Instructions.{Comparison, Equal, NotEqual, Less, AtLeast, Greater, AtMost, relation}
 use Rattle.ms_machine.specs.Effects.{Test, Compares, Divides, Selects, Indexes}
-use Rattle.ms_machine.specs.Tests.{arms_of, case_of, index_arm, literals, map_test, none_of, opposite, selected}
+use Rattle.ms_machine.specs.Tests.{arm_of, arms_of, case_of, index_arm, literals, map_test, none_of, opposite, selected}
 use Rattle.ms_machine.specs.Runs.{IsMet, word_arm}
 use Rattle.ms_machine.specs.Laws.{int_of, keys_differ}
 use Rattle.ms_machine.proofs.EffectKeeps.{IsOf}
@@ -194,9 +194,16 @@ index_below (pos n) len = by_test (nat_lt n len) refl
     by_test false e = omega arith
 index_below (negsuc n) len = omega arith
 
--- the arm that an input takes is one of the test's
+-- the arm that a test of words takes is one of the test's
+pub words_take_an_arm : (test : Test ℤ) → arm_of test < arms_of test
+words_take_an_arm (Compares comparison a b) = either_below (related (relation comparison) a b)
+words_take_an_arm (Divides b) = either_below (int_eq b (pos 0))
+words_take_an_arm (Selects a keys) = below_all a keys
+words_take_an_arm (Indexes a len) = index_below a len
+
+-- and so is that of an input
 pub arm_within : (x : Words) (test : Test Term) → arm_on x test < arms_of test
-arm_within x (Compares comparison a b) = either_below (related (relation comparison) (value x.words a) (value x.words b))
-arm_within x (Divides b) = either_below (int_eq (value x.words b) (pos 0))
-arm_within x (Selects a keys) = below_all (value x.words a) keys
-arm_within x (Indexes a len) = index_below (value x.words a) len
+arm_within x (Compares comparison a b) = words_take_an_arm (Compares comparison (value x.words a) (value x.words b))
+arm_within x (Divides b) = words_take_an_arm (Divides (value x.words b))
+arm_within x (Selects a keys) = words_take_an_arm (Selects (value x.words a) keys)
+arm_within x (Indexes a len) = words_take_an_arm (Indexes (value x.words a) len)

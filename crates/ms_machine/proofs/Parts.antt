@@ -13,7 +13,8 @@ use Rattle.ms_machine.specs.Control.{Views, Handler, Frame, Goes, Ends, enters, 
 use Rattle.ms_machine.specs.Tests.{arm_of, literals}
 use Rattle.ms_machine.specs.Segments.{Over, segment_within}
 use Rattle.ms_machine.specs.Runs.{Cut, end_at, footprint, started}
-use Rattle.ms_machine.proofs.Example.{at, truths, two}
+use Rattle.ms_machine.proofs.Methods.{at}
+use Rattle.ms_machine.proofs.Example.{truths, two}
 
 -- BOUNDS
 

@@ -1,5 +1,7 @@
 -- What an instruction does to the frame that it stands in and to memory (JVMS SE 8, sections 2.6 and 6.5).
 use Rattle.std.specs.Prelude.{ℕ, zero, suc, ◌+◌, ℤ, pos, negsuc, Bool, true, false, cond, not, ◌&&◌, nat_le, nat_lt, List, [], ◌∷◌, ◌++◌, length, replicate, reverse, codes, Option, Some, None, slice_get, slice_set}
+use Rattle.ms_words.specs.declared.descriptor.FieldType.{FieldType}
+use Rattle.ms_words.specs.declared.descriptor.FieldType.TheVariants as types
 use Rattle.ms_words.specs.declared.operator.Bin.TheVariants.{Add}
 use Rattle.ms_words.specs.declared.thrown.Thrown.{Thrown}
 use Rattle.ms_words.specs.declared.thrown.Thrown.TheVariants as throwables
@@ -186,15 +188,15 @@ access_in member missing here go (Some class) = cond member.is_there (once_start
 abbrev pub access : {V : Type 0} → Member → (missing : List ℕ) → Here V → (ℕ → Here V → Effect V) → Effect V
 access member missing here go = access_in member missing here go member.class
 
--- what a field is at first
-abbrev pub first_value : {V : Type 0} → Ints V → Option ℤ → Value V
-first_value I None = Null
-first_value I (Some word) = Int (I.constant word)
+-- what a field of a type is at first: this int, or null
+abbrev pub first_value : {V : Type 0} → Ints V → FieldType → ℤ → Value V
+first_value I (types.Int kind) word = Int (I.constant word)
+first_value I types.IntArray word = Null
 
 -- the value of a field is put on the stack
-abbrev pub get_static : {V : Type 0} → Ints V → Member → Option ℤ → ℕ → Here V → Effect V
-get_static I member initial class here =
-    Does (next here (static_value here.memory.statics class member.name member.descriptor (first_value I initial) ∷ here.stack))
+abbrev pub get_static : {V : Type 0} → Ints V → Member → FieldType → ℤ → ℕ → Here V → Effect V
+get_static I member type initial class here =
+    Does (next here (static_value here.memory.statics class member.name member.descriptor (first_value I type initial) ∷ here.stack))
 
 -- a value is taken into a field
 abbrev pub put_static : {V : Type 0} → Member → ℕ → Here V → Effect V
@@ -261,7 +263,7 @@ effect I Goto here = Does (jump 0 here here.stack)
 effect I (Switch keys) here = on_int here.stack (λ a below. Asks (Selects a keys) (λ arm. jump arm here below))
 effect I (ReturnValue sort) here = on_top here.stack (λ v below. Does (Returns (Some v) here.memory))
 effect I ReturnVoid here = Does (Returns None here.memory)
-effect I (GetStatic member type initial) here = access member (field_name member) here (get_static I member initial)
+effect I (GetStatic member type initial) here = access member (field_name member) here (get_static I member type initial)
 effect I (PutStatic member type) here = access member (field_name member) here (put_static member)
 effect I (Invoke member signature) here = access member (method_name member) here (invoke (length signature.parameters))
 effect I (New class) here = Does (making here.memory (λ number memory. Moves Next (record here { stack = Throwable number class ∷ here.stack; memory = memory })))

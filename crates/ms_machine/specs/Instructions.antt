@@ -91,8 +91,8 @@ pub data Instr : Type 0 where
   ReturnValue : Sort → Instr
   -- returns nothing: return
   ReturnVoid : Instr
-  -- puts the value of a static field of this type on the stack; before a store that is this int, or null: getstatic
-  GetStatic : Member → FieldType → Option ℤ → Instr
+  -- puts the value of a static field of this type on the stack; before a store that is this int, or null for arrays: getstatic
+  GetStatic : Member → FieldType → ℤ → Instr
   -- takes a value into a static field of this type: putstatic
   PutStatic : Member → FieldType → Instr
   -- takes arguments and calls a static method: invokestatic

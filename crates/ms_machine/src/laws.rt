@@ -1,7 +1,9 @@
-ghost use Rattle.std.specs.Prelude.{◌≡◌, List, ℕ};
+ghost use Rattle.std.specs.Prelude.{◌≡◌, ◌<◌, List, ℕ, ℤ};
 ghost use Rattle.ms_words.specs.Inputs.{Words};
 ghost use Rattle.ms_machine.specs.Control.{Program};
+ghost use Rattle.ms_machine.specs.Effects.{Test};
 ghost use Rattle.ms_machine.specs.Runs.{footprint};
+ghost use Rattle.ms_machine.specs.Tests.{arm_of, arms_of};
 ghost use Rattle.ms_machine.specs.Laws.{
   ChoicesAreSmall,
   IsClosed,
@@ -45,6 +47,11 @@ pub fn inputs_share_shadows()
 /// each literal on the way through the string and those of the arm.
 pub fn takes_where_literals_hold()
     ensures { (P : Program) → LawOfTheString P }
+{}
+
+/// The arm that a test of words takes is one of the test's.
+pub fn words_take_an_arm()
+    ensures { (test : Test ℤ) → arm_of test < arms_of test }
 {}
 
 /// Where each switch has fewer than 65,535 keys, what comes after a segment is the end, or a choice of
