@@ -10,7 +10,7 @@ use Rattle.ms_linking.specs.Groups.{Group, group_of, groups}
 use Rattle.ms_linking.specs.Laws.{go_together}
 
 -- a test of each number below this one
-abbrev all_below : ℕ → (ℕ → Bool) → Bool
+abbrev pub all_below : ℕ → (ℕ → Bool) → Bool
 all_below zero test = true
 all_below (suc n) test = test n && all_below n test
 
@@ -18,7 +18,7 @@ both : (a b : Bool) → (a && b) ≡ true → (a ≡ true) × (b ≡ true)
 both true b is = (refl, is)
 both false b is = absurd (let e = is in cc)
 
-passes : (n k : ℕ) (test : ℕ → Bool) → all_below n test ≡ true → k < n → test k ≡ true
+pub passes : (n k : ℕ) (test : ℕ → Bool) → all_below n test ≡ true → k < n → test k ≡ true
 passes zero k test all below = absurd (omega (arith, below))
 passes (suc n) k test all below = by_test (k == n) refl (passes n k test (both (test n) (all_below n test) all).1)
   where

@@ -1,3 +1,4 @@
 pub mod Groups
 pub mod Linked
 pub mod Laws
+pub mod Told

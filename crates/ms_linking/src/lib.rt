@@ -5,6 +5,10 @@
 //! Its laws are the contracts of functions that have no effect.
 #![tactic(auto)]
 
+mod decoding;
+mod instruction;
 mod laws;
 
+pub use decoding::instruction_of;
+pub use instruction::{Comparison, Instruction, Member, Sort};
 pub use laws::{linked_programs_are_in_order, opcodes_have_groups, programs_are_linked};

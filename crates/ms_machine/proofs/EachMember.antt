@@ -1,5 +1,5 @@
 -- What each instruction of members, throwables and arrays does, computed.
-use Rattle.std.proofs.Common.{◌≡◌, ℕ, List, [], ◌∷◌, ℤ, pos, negsuc, true, false, Some, None, codes, refl, replicate}
+use Rattle.std.proofs.Common.{◌≡◌, ℕ, List, [], ◌∷◌, ℤ, pos, negsuc, true, false, Some, codes, refl, replicate}
 use Rattle.std.specs.Int.{int_wrap}
 use Rattle.ms_words.specs.declared.descriptor.FieldType.TheVariants as types
 use Rattle.ms_words.specs.declared.kind.Kind.TheVariants.{I, Z}
@@ -10,21 +10,18 @@ use Rattle.ms_machine.specs.Ints.{Int as Shadowed, ints}
 use Rattle.ms_machine.specs.Instructions.{Absent, Present, Foreign, Initialiser, Member, Instr, Divide, GetStatic, PutStatic, Invoke, New, Construct, Throw, NewArray, ArrayLength, ArrayLoad, ArrayStore}
 use Rattle.ms_machine.specs.Values.{Value, Null, Array, Throwable, Memory, Static, Missing, SymLength, HeapFull, Stuck}
 use Rattle.ms_machine.specs.Effects.{Next, Moves, Calls, Initialises, Raises, Stops, Divides, Indexes, effect, greatest_length, most_cells, most_made}
-use Rattle.ms_machine.proofs.Methods.{absent, constant, member, parameter, without_class}
+use Rattle.ms_machine.proofs.Methods.{absent, constant, field_of_B, member, nothing, parameter, without_class}
 use Rattle.ms_machine.proofs.OneFrame.{Listed, Once, Each, first, fixed, listed, memory, moves, of_both, on, on_stack, raises, second, text, with_memory}
 
 -- MEMBERS
 
--- a field of class 0, which is named A and was started, and of class 1, which is named B and was not
-abbrev field_of_A : List ℕ → List ℕ → Member
-field_of_A name descriptor = member (codes "A") name descriptor 0 Present
-
-abbrev field_of_B : Initialiser → Member
-field_of_B initialiser = member (codes "B") (codes "k") (codes "I") 1 initialiser
+-- a member of class 0, which is named A and was started; class 1, which is named B, was not
+abbrev member_of_A : List ℕ → List ℕ → Member
+member_of_A name descriptor = member (codes "A") name descriptor 0 Present
 
 -- the method m of two parameters in A, and in B
 abbrev method_of_A : Member
-method_of_A = member (codes "A") (codes "m") (codes "([IZ)I") 0 Present
+method_of_A = member_of_A (codes "m") (codes "([IZ)I")
 
 abbrev method_of_B : Initialiser → Member
 method_of_B initialiser = member (codes "B") (codes "m") (codes "([IZ)I") 1 initialiser
@@ -43,15 +40,15 @@ abbrev get_int : Member → Instr
 get_int field = GetStatic field (types.Int I) (pos 5)
 
 -- a field that was stored: its value
-getstatic : on_stack (get_int (field_of_A (codes "k") (codes "I"))) (text ∷ []) ≡ Once (moves (fixed (pos 30) ∷ text ∷ []))
+getstatic : on_stack (get_int (member_of_A (codes "k") (codes "I"))) (text ∷ []) ≡ Once (moves (fixed (pos 30) ∷ text ∷ []))
 getstatic = refl
 
 -- an int that was never stored: what it is at first
-getstatic_first : on_stack (get_int (field_of_A (codes "j") (codes "I"))) (text ∷ []) ≡ Once (moves (fixed (pos 5) ∷ text ∷ []))
+getstatic_first : on_stack (get_int (member_of_A (codes "j") (codes "I"))) (text ∷ []) ≡ Once (moves (fixed (pos 5) ∷ text ∷ []))
 getstatic_first = refl
 
 -- an array that was never stored: null; it has the name of an int, and another descriptor
-getstatic_array : on_stack (GetStatic (field_of_A (codes "k") (codes "[I")) types.IntArray (pos 0)) [] ≡ Once (moves (Null ∷ []))
+getstatic_array : on_stack (GetStatic (member_of_A (codes "k") (codes "[I")) types.IntArray (pos 0)) [] ≡ Once (moves (Null ∷ []))
 getstatic_array = refl
 
 -- a class without an initialiser is started, and the field read at once
@@ -89,12 +86,12 @@ abbrev field : List ℕ → List ℕ → Value Shadowed → Static Shadowed
 field name descriptor value = record { class = 0; name = name; descriptor = descriptor; value = value }
 
 -- a field that was stored has the new value
-putstatic : on_stack (put_int (field_of_A (codes "k") (codes "I"))) (first (pos 4) ∷ text ∷ [])
+putstatic : on_stack (put_int (member_of_A (codes "k") (codes "I"))) (first (pos 4) ∷ text ∷ [])
     ≡ Once (Moves Next (with_memory (holding (field (codes "k") (codes "I") (first (pos 4)) ∷ [])) (text ∷ [])))
 putstatic = refl
 
 -- a field of the same name and another descriptor is another field
-putstatic_array : on_stack (PutStatic (field_of_A (codes "k") (codes "[I")) types.IntArray) (Array 0 ∷ [])
+putstatic_array : on_stack (PutStatic (member_of_A (codes "k") (codes "[I")) types.IntArray) (Array 0 ∷ [])
     ≡ Once (Moves Next (with_memory (holding (field (codes "k") (codes "I") (fixed (pos 30)) ∷ field (codes "k") (codes "[I") (Array 0) ∷ [])) []))
 putstatic_array = refl
 
@@ -107,7 +104,7 @@ putstatic_foreign : on_stack (put_int (field_of_B Foreign)) (first (pos 4) ∷ [
 putstatic_foreign = refl
 
 -- an absent field is missing
-putstatic_absent : on_stack (put_int (absent (field_of_A (codes "k") (codes "I")))) (first (pos 4) ∷ []) ≡ Once (Stops (Missing (codes "A.k")))
+putstatic_absent : on_stack (put_int (absent (member_of_A (codes "k") (codes "I")))) (first (pos 4) ∷ []) ≡ Once (Stops (Missing (codes "A.k")))
 putstatic_absent = refl
 
 -- an absent class is missing
@@ -121,7 +118,7 @@ invokestatic : on_stack (Invoke method_of_A signature) (first (pos 1) ∷ Array 
 invokestatic = refl
 
 -- a method of no parameters takes nothing
-invokestatic_of_none : on_stack (Invoke method_of_A (record { parameters = []; result = None })) (text ∷ []) ≡ Once (Calls [] (on (text ∷ [])))
+invokestatic_of_none : on_stack (Invoke method_of_A nothing) (text ∷ []) ≡ Once (Calls [] (on (text ∷ [])))
 invokestatic_of_none = refl
 
 -- an initialiser runs first, and the arguments stay on the stack

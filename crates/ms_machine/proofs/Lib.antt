@@ -6,6 +6,7 @@ pub mod OneFrame
 mod EachGroup
 mod EachMember
 mod Scenes
+mod CallScenes
 mod ClassScenes
 pub mod ValueMap
 pub mod EffectMap

@@ -1,15 +1,17 @@
 -- How a program of several methods is written down, line by line, for the examples.
-use Rattle.std.proofs.Common.{ℕ, ◌==◌, ◌&&◌, true, false, List, [], ◌∷◌, ℤ, Option, Some, None, cond, codes, map}
+use Rattle.std.proofs.Common.{ℕ, ◌==◌, ◌&&◌, true, false, List, [], ◌∷◌, replicate, ℤ, pos, Option, Some, None, cond, codes, map}
 use Rattle.std.specs.Option.{option_and_then, option_map}
+use Rattle.ms_words.specs.declared.descriptor.FieldType.TheVariants as types
 use Rattle.ms_words.specs.declared.item.Item.{Item}
 use Rattle.ms_words.specs.declared.item.Item.TheVariants.{Entry, At}
 use Rattle.ms_words.specs.declared.kind.Kind.{Kind}
 use Rattle.ms_words.specs.declared.kind.Kind.TheVariants.{I}
 use Rattle.ms_words.specs.declared.thrown.Thrown.{Thrown}
+use Rattle.ms_words.specs.Descriptors.{Signature}
 use Rattle.ms_words.specs.Inputs.{Words}
 use Rattle.ms_terms.specs.Terms.{Constant, Param}
 use Rattle.ms_machine.specs.Ints.{Int}
-use Rattle.ms_machine.specs.Instructions.{Absent, Initialiser, Instr, Member}
+use Rattle.ms_machine.specs.Instructions.{Absent, Initialiser, Instr, Member, GetStatic, PutStatic}
 use Rattle.ms_machine.specs.Control.{EntryView, Program, View, Views}
 
 -- LINES
@@ -137,6 +139,39 @@ absent member = record member { is_there = false }
 -- the member, with its class absent
 abbrev pub without_class : Member → Member
 without_class member = record member { class = None; is_there = false; initialiser = Absent }
+
+-- Classes 0, 1 and 2 are named A, B and C, and each has a static int k.
+
+abbrev pub field_of_A : Initialiser → Member
+field_of_A initialiser = member (codes "A") (codes "k") (codes "I") 0 initialiser
+
+abbrev pub field_of_B : Initialiser → Member
+field_of_B initialiser = member (codes "B") (codes "k") (codes "I") 1 initialiser
+
+abbrev pub field_of_C : Initialiser → Member
+field_of_C initialiser = member (codes "C") (codes "k") (codes "I") 2 initialiser
+
+-- items of the first methods of B and of C
+abbrev pub in_B : ℕ → Item
+in_B offset = At 1 0 offset
+
+abbrev pub in_C : ℕ → Item
+in_C offset = At 2 0 offset
+
+-- getstatic and putstatic of an int that is 0 at first
+abbrev pub get : Member → Instr
+get field = GetStatic field (types.Int I) (pos 0)
+
+abbrev pub put : Member → Instr
+put field = PutStatic field (types.Int I)
+
+-- the signature of a method that takes so many ints and returns one
+abbrev pub takes_ints : ℕ → Signature
+takes_ints count = record { parameters = replicate count (types.Int I); result = Some (types.Int I) }
+
+-- that of a method without parameters that returns nothing
+abbrev pub nothing : Signature
+nothing = record { parameters = []; result = None }
 
 -- INPUTS AND INTS
 

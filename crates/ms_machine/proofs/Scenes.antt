@@ -1,22 +1,22 @@
 -- Runs of one method as wholes, computed: arrays, locals, switches, divisions and throws.
-use Rattle.std.proofs.Common.{◌≡◌, ℕ, [], ◌∷◌, ℤ, pos, negsuc, Some, None, length, refl}
+use Rattle.std.proofs.Common.{◌≡◌, ℕ, List, [], ◌∷◌, ℤ, pos, negsuc, Some, None, length, refl}
 use Rattle.std.specs.Int.{int_wrap}
 use Rattle.ms_words.specs.declared.item.Item.TheVariants.{Entry}
 use Rattle.ms_words.specs.declared.kind.Kind.TheVariants.{I}
 use Rattle.ms_words.specs.declared.operator.Bin.TheVariants.{Div, Rem}
 use Rattle.ms_words.specs.declared.operator.Rel.{Rel}
-use Rattle.ms_words.specs.declared.operator.Rel.TheVariants.{Eq, Ne, Uge}
+use Rattle.ms_words.specs.declared.operator.Rel.TheVariants.{Eq, Ne, Lt, Ge, Uge}
 use Rattle.ms_words.specs.declared.thrown.Thrown.TheVariants.{Arithmetic, ArrayIndexOutOfBounds, NegativeArraySize, NullPointer, RuntimeException, Error}
 use Rattle.ms_terms.specs.Terms.{Constant, Param, Binary}
 use Rattle.ms_machine.specs.Ints.{Int as Shadowed, ints}
-use Rattle.ms_machine.specs.Instructions.{Equal, OfInt, OfReference, Push, PushNull, Load, Store, Shuffle, Divide, CompareZero, Goto, Switch, ReturnValue, Throw, NewArray, ArrayLength, ArrayLoad, ArrayStore}
+use Rattle.ms_machine.specs.Instructions.{Equal, NotEqual, Less, OfInt, OfReference, Skip, Increment, Compare, Push, PushNull, Load, Store, Shuffle, Divide, CompareZero, Goto, Switch, ReturnValue, Throw, NewArray, ArrayLength, ArrayLoad, ArrayStore}
 use Rattle.ms_machine.specs.Values.{Int, Returned, Threw, Runaway, SymLength, HeapFull}
 use Rattle.ms_machine.specs.Effects.{greatest_length, most_cells, most_made}
 use Rattle.ms_machine.specs.Control.{Program, Goes, memory_at_start}
 use Rattle.ms_machine.specs.Tests.{Literal, arms_of}
 use Rattle.ms_machine.specs.Segments.{After, Choice, Over, done_within, most_instructions}
 use Rattle.ms_machine.specs.Runs.{Ended, end_of, footprint, segment_after, started, string, way}
-use Rattle.ms_machine.proofs.Methods.{alone, at, constant, covered, line, no_input, one_int, parameter, two_ints}
+use Rattle.ms_machine.proofs.Methods.{Line, alone, at, constant, covered, line, no_input, one_int, parameter, two_ints}
 
 -- how many arms the choice has that comes, or 0 where the run is over
 abbrev arms_then : After Shadowed → ℕ
@@ -285,6 +285,43 @@ way_of_default : way ints switch.view (started switch (one_int (pos 9))) (2 ∷ 
 unfolding most_instructions
 way_of_default = refl
 
+-- the same of a constant: f()I with bipush 4 in the place of iload_0
+abbrev switch_of_constant : Program
+switch_of_constant = alone [] (line 0 (Push (pos 4)) 2 [] ∷ line 2 (Switch (pos 3 ∷ pos 4 ∷ [])) 24 (24 ∷ 26 ∷ 28 ∷ []) ∷ line 24 (Push (pos 1)) 25 []
+    ∷ line 25 (ReturnValue OfInt) 26 [] ∷ line 26 (Push (pos 2)) 27 [] ∷ line 27 (ReturnValue OfInt) 28 [] ∷ line 28 (Push (pos 0)) 29 []
+    ∷ line 29 (ReturnValue OfInt) 30 [] ∷ [])
+
+-- it is no choice
+switch_of_constant_returns : end_of switch_of_constant no_input 0 ≡ Ended (Returned (constant (pos 2)))
+unfolding most_instructions
+switch_of_constant_returns = refl
+
+-- A CONSTANT AND A PARAMETER: f(I)I with iconst_5, iload_0, if_icmplt 7, iconst_1, ireturn, 7: iconst_2, ireturn
+
+abbrev five_below : Program
+five_below = alone (I ∷ []) (line 0 (Push (pos 5)) 1 [] ∷ line 1 (Load OfInt 0) 2 [] ∷ line 2 (Compare Less) 5 (7 ∷ []) ∷ line 5 (Push (pos 1)) 6 []
+    ∷ line 6 (ReturnValue OfInt) 7 [] ∷ line 7 (Push (pos 2)) 8 [] ∷ line 8 (ReturnValue OfInt) 9 [] ∷ [])
+
+-- one parameter makes the comparison a choice
+five_below_6 : string five_below (one_int (pos 6)) 8 ≡ 1 ∷ []
+unfolding most_instructions
+five_below_6 = refl
+
+-- 5 is not below 5
+five_below_5 : string five_below (one_int (pos 5)) 8 ≡ 0 ∷ []
+unfolding most_instructions
+five_below_5 = refl
+
+-- the branch says that the constant is below the parameter
+way_of_below : way ints five_below.view (started five_below (one_int (pos 6))) (1 ∷ []) ≡ literal Lt (constant (pos 5)) (parameter 0 (pos 6)) ∷ []
+unfolding most_instructions
+way_of_below = refl
+
+-- falling through says that it is not
+way_of_not_below : way ints five_below.view (started five_below (one_int (pos 5))) (0 ∷ []) ≡ literal Ge (constant (pos 5)) (parameter 0 (pos 5)) ∷ []
+unfolding most_instructions
+way_of_not_below = refl
+
 -- DIVISION: f(II)I with iload_0, iload_1, idiv, ireturn
 
 abbrev divide : Program
@@ -375,12 +412,36 @@ catch_null_returns = refl
 abbrev forever : Program
 forever = alone [] (line 0 Goto 3 (0 ∷ []) ∷ [])
 
--- 20,000 instructions are executed, and no more
+-- it comes to no end of its own
 forever_ends : end_of forever no_input 0 ≡ Ended Runaway
 unfolding most_instructions
 forever_ends = refl
 
--- the one item stands once
+-- 20,000 instructions are executed
+forever_executes_so_many : length (segment_after forever no_input []).trace ≡ 20000
+unfolding most_instructions
+forever_executes_so_many = refl
+
+-- their one item stands once
 forever_executes : footprint forever no_input [] ≡ Entry ∷ at 0 ∷ []
 unfolding most_instructions
 forever_executes = refl
+
+-- 20,000 INSTRUCTIONS: f()I with sipush 6,665, istore_0, 4: iinc of local 0 by -1, iload_0, ifne 4, and then these lines: the
+-- first two, three for each number from 6,665 down to 1, and three more are 20,000
+
+abbrev counting_down : List Line → Program
+counting_down last = alone [] (line 0 (Push (pos 6665)) 3 [] ∷ line 3 (Store OfInt 0) 4 [] ∷ line 4 (Increment 0 (negsuc 0)) 7 [] ∷ line 7 (Load OfInt 0) 8 []
+    ∷ line 8 (CompareZero NotEqual) 11 (4 ∷ []) ∷ last)
+
+-- nop, iconst_1, ireturn: the last of 20,000 instructions may end the run
+last_may_end : end_of (counting_down (line 11 Skip 12 [] ∷ line 12 (Push (pos 1)) 13 [] ∷ line 13 (ReturnValue OfInt) 14 [] ∷ [])) no_input 0
+    ≡ Ended (Returned (constant (pos 1)))
+unfolding most_instructions int_wrap
+last_may_end = refl
+
+-- nop, nop, iconst_1, ireturn: one more does not
+one_more_does_not : end_of (counting_down (line 11 Skip 12 [] ∷ line 12 Skip 13 [] ∷ line 13 (Push (pos 1)) 14 [] ∷ line 14 (ReturnValue OfInt) 15 [] ∷ [])) no_input 0
+    ≡ Ended Runaway
+unfolding most_instructions int_wrap
+one_more_does_not = refl

@@ -98,7 +98,7 @@ impl<'a> View<'a> {
 
     /// The instruction, in the view of one. Its number of the pool and its targets aren't part of the view:
     /// what they say is in `named` and `target`.
-    pub fn instr(&self) -> Option<&Instr>
+    pub fn instr(&self) -> Option<&'a Instr>
         ensures { option_map (λ instr. bare instr.now) result ≡ self.now.instr }
     {
         self.program.instr(self.item)
@@ -167,7 +167,7 @@ impl<'a> View<'a> {
 
     /// What the number of the pool behind the opcode names: the int or the text of `ldc` and `ldc_w`, the
     /// throwable of `new`, and the member of `getstatic`, `putstatic`, `invokestatic` and `invokespecial`.
-    pub fn named(&self) -> Option<Named<'_>>
+    pub fn named(&self) -> Option<Named<'a>>
         ensures { option_map views.name_of result ≡ self.now.named }
     {
         let instr = self.program.instr(self.item)?;

@@ -178,3 +178,23 @@ one_more count field_type (Some x) = ap (λ (n : ℕ). some (n, x.1)) (omega ari
 pub none_counted : (found : Option (List FieldType × List ℕ)) → option_map counted found ≡ option_map (more 0) (option_map counted found)
 none_counted None = refl
 none_counted (Some x) = ap (λ (n : ℕ). some (n, x.1)) (omega arith)
+
+-- THE TYPES
+
+-- with these types in front
+abbrev before : List FieldType → List FieldType × List ℕ → List FieldType × List ℕ
+before types found = (types ++ found.0, found.1)
+
+-- The parameters are these types and those that are left.
+abbrev pub AreTypes : List ℕ → List FieldType → Bool → List ℕ → Type 0
+AreTypes text types in_array left = types_in false text ≡ option_map (before types) (types_in in_array left)
+
+-- one more was read
+pub type_read : (types : List FieldType) (field_type : FieldType) (found : Option (List FieldType × List ℕ)) → option_map (before types) (with_type field_type found) ≡ option_map (before (types ++ field_type ∷ [])) found
+type_read types field_type None = refl
+type_read types field_type (Some x) = ap (λ (l : List FieldType). some (l, x.1)) (sym (append_assoc types (field_type ∷ []) x.0))
+
+-- nothing was read yet
+pub no_type_read : (found : Option (List FieldType × List ℕ)) → found ≡ option_map (before []) found
+no_type_read None = refl
+no_type_read (Some x) = refl

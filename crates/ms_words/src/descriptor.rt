@@ -1,8 +1,10 @@
-ghost use Rattle.std.specs.Prelude.{◌≡◌, ◌↔◌, List, Some, false, is_some, length, option_and_then, option_map, ℕ};
+ghost use Rattle.std.specs.Prelude.{◌≡◌, ◌↔◌, IfOk, List, Some, false, is_some, length, option_and_then, option_map, ℕ};
 ghost use Rattle.ms_words.specs.Descriptors.{Signature, counted, entry_part_of, few, field_type_of, ints_in, kind_of, part, result_kind, result_of, signature_of, spelled_signature, spelled_type, types_in};
 ghost use Rattle.ms_words.specs.declared.descriptor.FieldType as types;
 
-use crate::{Kind, Kinds};
+use crate::{Kind, Kinds, NoMemory};
+use std::alloc::Global;
+use std::marker::Model;
 
 /// What a field, a parameter or a result holds, of the types that the machine knows (JVMS SE 8, section
 /// 4.3.2): an int of a kind, or an array of ints.
@@ -17,6 +19,37 @@ pub enum FieldType {
 pub struct EntryPart {
     pub kinds: Kinds,
     pub result: Option<Kind>,
+}
+
+/// What a method takes and returns, of types that the machine knows (JVMS SE 8, section 4.3.3).
+#[derive(Drop)]
+pub struct Signature {
+    parameters: Vec<FieldType>,
+    result: Option<FieldType>,
+}
+
+impl Model for Signature {
+    ghost use Rattle.ms_words.specs.Descriptors.{Signature as Typed};
+
+    ghost Value = { Typed };
+
+    ghost view = { λ signature. record { parameters = signature.parameters.items; result = signature.result } };
+}
+
+impl Signature {
+    /// The types of its parameters, in order.
+    pub fn parameters(&self) -> &[FieldType]
+        ensures { result.now ≡ self.now.parameters }
+    {
+        self.parameters.as_slice()
+    }
+
+    /// The type of its result; none where it is void.
+    pub fn result(&self) -> Option<FieldType>
+        ensures { result ≡ self.now.result }
+    {
+        self.result
+    }
 }
 
 /// The kind that a letter of a descriptor stands for (table 4.3-A).
@@ -69,6 +102,63 @@ fn parameters(text: &[u8]) -> Option<(usize, &[u8])>
         }
     }
     None
+}
+
+/// The types of the parameters, each a known one, up to the parenthesis that closes them.
+fn types(alloc: Global, text: &[u8]) -> Result<Option<Vec<FieldType>>, NoMemory>
+    ensures { IfOk result (λ types. option_map (λ types. types.items) types ≡ option_map (λ found. found.0) (types_in false text.now)) }
+{
+    let mut in_array = false;
+    let mut types = Vec::new(alloc);
+    for letter in text {
+        if in_array {
+            if *letter != b'I' {
+                return Ok(None);
+            }
+            in_array = false;
+            types.push(FieldType::IntArray)?;
+        } else if *letter == b')' {
+            return Ok(Some(types));
+        } else if *letter == b'[' {
+            in_array = true;
+        } else {
+            let Some(kind) = kind_of(*letter) else {
+                return Ok(None);
+            };
+            types.push(FieldType::Int(kind))?;
+        }
+    }
+    Ok(None)
+}
+
+/// The result that these bytes name, `None` in it for void, where it is void or of a known type.
+fn result_type(text: &[u8]) -> Option<Option<FieldType>>
+    ensures { result ≡ result_of text.now }
+{
+    match text {
+        [b'V'] => Some(None),
+        _ => Some(Some(field_type(text)?)),
+    }
+}
+
+/// What a method with this descriptor takes and returns, where each parameter and the result are of a
+/// `FieldType`, or the result is void.
+pub fn known_signature(alloc: Global, desc: &[u8]) -> Result<Option<Signature>, NoMemory>
+    ensures { IfOk result (λ signature. signature ≡ signature_of desc.now) }
+{
+    let [b'(', text @ ..] = desc else {
+        return Ok(None);
+    };
+    let Some((_, rest)) = parameters(text) else {
+        return Ok(None);
+    };
+    let Some(result) = result_type(rest) else {
+        return Ok(None);
+    };
+    let Some(parameters) = types(alloc, text)? else {
+        return Ok(None);
+    };
+    Ok(Some(Signature { parameters, result }))
 }
 
 /// Whether these bytes name a result: void, or a type that the machine knows.

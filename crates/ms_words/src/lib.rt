@@ -16,8 +16,8 @@ mod operator;
 mod thrown;
 
 pub use descriptor::{
-    EntryPart, FieldType, descriptors_spell_types, entry_part, field_type, is_known_signature,
-    known_parameters,
+    EntryPart, FieldType, Signature, descriptors_spell_types, entry_part, field_type,
+    is_known_signature, known_parameters, known_signature,
 };
 pub use end::{Ended, PathEnd};
 pub use input::{Input, input_less};

@@ -75,6 +75,42 @@ impl Thrown {
     }
 }
 
+impl Thrown {
+    /// Its place in their order, counted from 0.
+    fn number(self) -> u8
+        ensures { result ≡ tree.number_of self }
+    {
+        match self {
+            Thrown::Throwable => 0,
+            Thrown::Exception => 1,
+            Thrown::Error => 2,
+            Thrown::RuntimeException => 3,
+            Thrown::Arithmetic => 4,
+            Thrown::IndexOutOfBounds => 5,
+            Thrown::NegativeArraySize => 6,
+            Thrown::NullPointer => 7,
+            Thrown::IllegalArgument => 8,
+            Thrown::IllegalState => 9,
+            Thrown::UnsupportedOperation => 10,
+            Thrown::ArrayIndexOutOfBounds => 11,
+        }
+    }
+
+    /// Whether it is the other class or stands below it in the tree.
+    #[tactic(auto, using(crate::proofs::Tree::one_up, crate::proofs::Tree::top))]
+    pub fn is_a(self, other: Thrown) -> bool
+        ensures { result ≡ tree.is_a self other }
+    {
+        if self.number() == other.number() {
+            return true;
+        }
+        match self.parent() {
+            Some(above) => above.is_a(other),
+            None => false,
+        }
+    }
+}
+
 /// The throwable class of this name, or `None` where no class of the tree has it.
 pub fn thrown_named(name: &[u8]) -> Option<Thrown>
     ensures { result ≡ tree.thrown_named name.now }
