@@ -52,6 +52,13 @@ impl Decoded {
         Decoded { steps, handlers }
     }
 
+    /// How many bytes the code has.
+    pub fn bytes(&self) -> usize
+        ensures { result ≡ length self.now.steps }
+    {
+        self.steps.len()
+    }
+
     /// What starts at this offset.
     fn step(&self, offset: u16) -> Option<&Step>
         ensures { option_copied result ≡ step_at self.now.steps offset }

@@ -13,3 +13,4 @@ pub mod WholeCodes
 pub mod Leading
 pub mod Firsts
 pub mod Subset
+pub mod Begun

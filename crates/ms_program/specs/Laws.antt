@@ -1,5 +1,6 @@
 -- What is said of each view of a program: the items in it are instructions, and its own instruction is one of the subset.
 use Rattle.std.specs.Prelude.{◌≡◌, ◌⊎◌, ℕ, suc, ◌^◌, ◌<◌, List, [], ◌∷◌, length, true, Option, Some, IfSome, IsSome, is_some, IsTrue, All, ℤ}
+use Rattle.std.specs.List.{list_all}
 use Rattle.ms_words.specs.declared.descriptor.FieldType.{FieldType}
 use Rattle.ms_words.specs.declared.item.Item.{Item}
 use Rattle.ms_words.specs.declared.thrown.Thrown.{Thrown}
@@ -10,10 +11,12 @@ use Rattle.ms_code.specs.declared.form.Form.TheVariants.{Plain, SignedByte, Sign
 use Rattle.ms_code.specs.declared.instruction.Instr.{Instr}
 use Rattle.ms_code.specs.declared.instruction.Operand.{Operand}
 use Rattle.ms_code.specs.declared.instruction.Operand.TheVariants as operands
+use Rattle.ms_code.specs.Codes.{instr_at, is_start, next_of, targets_of}
 use Rattle.ms_code.specs.Instructions.{is_message}
 use Rattle.ms_code.specs.Keys.{SwitchCases, keys_ascend}
 use Rattle.ms_code.specs.Laws.{is_widened}
 use Rattle.ms_code.specs.Opcodes.{form_of}
+use Rattle.ms_program.specs.declared.body.Body.{Body}
 use Rattle.ms_program.specs.declared.view.Initialiser.{Initialiser}
 use Rattle.ms_program.specs.declared.view.Initialiser.TheVariants.{Present}
 use Rattle.ms_program.specs.declared.view.MemberPart.{MemberPart}
@@ -44,6 +47,18 @@ pub record HasFirstItems (v : View) : Type 0 where
   -- 184 is `invokestatic`
   pub callee : (instr : Instr) (part : MemberPart) → v.instr ≡ Some instr → instr.op ≡ 184 → v.member ≡ Some part → part.member_present ≡ true → IsSome v.first_item
   pub initialiser : v.initialiser ≡ Some Present → IsSome v.initialiser_item
+
+-- CODES
+
+-- The code of a method has 1 to 65,535 bytes, and an instruction starts at offset 0, behind each that isn't the last, at each
+-- target and where each handler begins.
+pub record IsWholeBody (body : Body) : Type 0 where
+  pub some : 0 < length body.code.steps
+  pub short : length body.code.steps < 2 ^ 16
+  pub first : IsTrue (is_start body.code.steps 0)
+  pub next : (offset behind : ℕ) → next_of body.code offset ≡ Some behind → IsTrue (is_start body.code.steps behind)
+  pub targets : (offset : ℕ) (instr : Instr) → instr_at body.code offset ≡ Some instr → IsTrue (list_all (is_start body.code.steps) (targets_of instr.operand))
+  pub handlers : IsTrue (list_all (λ handler. is_start body.code.steps handler.target) body.code.handlers)
 
 -- WHAT INSTRUCTIONS ARE
 

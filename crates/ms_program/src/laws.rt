@@ -5,8 +5,10 @@ ghost use Rattle.ms_pool.specs.declared.code.ClassKind.{ClassKind};
 ghost use Rattle.ms_classfile.specs.declared.fault.ClassFault.TheVariants.{At};
 ghost use Rattle.ms_code.specs.declared.instruction.Instr.{Instr};
 ghost use Rattle.ms_program.specs.Files.{File, IsFile, IsFirstFault};
-ghost use Rattle.ms_program.specs.Laws.{HasFirstItems, IsOfSubset, LeadsToViews};
-ghost use Rattle.ms_program.specs.Programs.{IsProgram, Program};
+ghost use Rattle.ms_program.specs.Laws.{HasFirstItems, IsWholeBody, IsOfSubset, LeadsToViews};
+ghost use Rattle.ms_program.specs.declared.body.Body.{Body};
+ghost use Rattle.ms_program.specs.declared.method.MethodId.{MethodId};
+ghost use Rattle.ms_program.specs.Programs.{IsProgram, Program, body_of};
 ghost use Rattle.ms_program.specs.Reading.{file_read};
 ghost use Rattle.ms_program.specs.Views.{View, view};
 
@@ -30,6 +32,16 @@ pub fn files_are_read()
 /// a view itself. It does nothing.
 pub fn views_lead_to_views()
     ensures { (P : Program) (item : Item) (v : View) → IsProgram P → view P item ≡ Some v → LeadsToViews P v }
+{
+    codes_lie_in_their_file();
+    decoded_codes_are_whole();
+    pools_hold_what_they_name();
+}
+
+/// The law of codes: that of each method that isn't foreign has 1 to 65,535 bytes, and an instruction starts
+/// wherever it leads. It does nothing.
+pub fn bodies_have_whole_codes()
+    ensures { (P : Program) (id : MethodId) (body : Body) → IsProgram P → body_of P id ≡ Some body → IsWholeBody body }
 {
     codes_lie_in_their_file();
     decoded_codes_are_whole();

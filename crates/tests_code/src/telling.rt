@@ -180,6 +180,9 @@ fn tell_decoded(
     size: u16,
     asked: Asked,
 ) -> Result<(), AllocError> {
+    if decoded.bytes() != usize::from(size) {
+        text.push_str("of another size; ")?;
+    }
     match asked {
         Asked::All => tell_all(text, decoded, size)?,
         Asked::At(offset) => return tell_offset(text, decoded, offset),

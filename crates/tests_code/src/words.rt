@@ -1,7 +1,7 @@
-//! The operators of words. The expected words were computed by a Java virtual machine (JVMS SE 8, section
+//! The operators of words, signatures of descriptors, and the tree of throwables. The expected words were computed by a Java virtual machine (JVMS SE 8, section
 //! 6.5); no such machine divides by zero.
 
-use ms_words::{Bin, Un, apply1, apply2};
+use ms_words::{Bin, FieldType, Signature, Thrown, Un, apply1, apply2, known_signature};
 use std::alloc::{AllocError, Global};
 use std::fmt::Write;
 use std::test::Fail;
@@ -80,5 +80,100 @@ fn operators_compute_as_the_machine(rt: HostRuntime) -> Result<(), Fail> {
     assert!(rt; two.as_str() == OF_TWO, "{two}");
     let one = of_one(rt.alloc())?;
     assert!(rt; one.as_str() == OF_ONE, "{one}");
+    Ok(())
+}
+
+/// Adds a type, as a descriptor spells it.
+fn tell_type(text: &mut String, field_type: FieldType) -> Result<(), AllocError> {
+    match field_type {
+        FieldType::Int(kind) => write!(text, "{kind:?} "),
+        FieldType::IntArray => text.push_str("[I "),
+    }
+}
+
+/// Adds what a method takes and returns.
+fn tell_signature(text: &mut String, signature: &Signature) -> Result<(), AllocError> {
+    for field_type in signature.parameters() {
+        tell_type(text, *field_type)?;
+    }
+    text.push_str("to ")?;
+    match signature.result() {
+        Some(field_type) => tell_type(text, field_type),
+        None => text.push_str("nothing "),
+    }
+}
+
+/// What methods with these descriptors take and return.
+fn signatures(alloc: Global) -> Result<String, AllocError> {
+    let mut text = String::new(alloc);
+    let descriptors = [
+        b"()V".as_slice(),
+        b"(I[IZ)[I",
+        b"([I[IBCS)I",
+        b"(J)I",
+        b"([[I)V",
+        b"(I)VV",
+        b"(I",
+        b"I",
+        b"",
+    ];
+    for descriptor in descriptors {
+        match known_signature(alloc, descriptor)? {
+            Some(signature) => tell_signature(&mut text, &signature)?,
+            None => text.push_str("unknown ")?,
+        }
+        text.push_str("; ")?;
+    }
+    Ok(text)
+}
+
+#[test]
+fn signatures_are_read(rt: HostRuntime) -> Result<(), Fail> {
+    let text = signatures(rt.alloc())?;
+    let wanted = "to nothing ; I [I Z to [I ; [I [I B C S to I ; unknown ; unknown ; unknown ; \
+        unknown ; unknown ; unknown ; ";
+    assert!(rt; text.as_str() == wanted, "{text}");
+    Ok(())
+}
+
+/// What some throwables are, as the documentation of `java.lang` has it.
+fn lineages(alloc: Global) -> Result<String, AllocError> {
+    let mut text = String::new(alloc);
+    let classes = [
+        Thrown::Throwable,
+        Thrown::Exception,
+        Thrown::Error,
+        Thrown::RuntimeException,
+        Thrown::Arithmetic,
+        Thrown::IndexOutOfBounds,
+        Thrown::NegativeArraySize,
+        Thrown::NullPointer,
+        Thrown::IllegalArgument,
+        Thrown::IllegalState,
+        Thrown::UnsupportedOperation,
+        Thrown::ArrayIndexOutOfBounds,
+    ];
+    for class in [
+        Thrown::ArrayIndexOutOfBounds,
+        Thrown::Error,
+        Thrown::IllegalState,
+        Thrown::Throwable,
+    ] {
+        for other in classes {
+            if class.is_a(other) {
+                write!(text, "{other:?} ")?;
+            }
+        }
+        text.push_str("; ")?;
+    }
+    Ok(text)
+}
+
+#[test]
+fn throwables_stand_below_others(rt: HostRuntime) -> Result<(), Fail> {
+    let text = lineages(rt.alloc())?;
+    let wanted = "Throwable Exception RuntimeException IndexOutOfBounds ArrayIndexOutOfBounds ; \
+        Throwable Error ; Throwable Exception RuntimeException IllegalState ; Throwable ; ";
+    assert!(rt; text.as_str() == wanted, "{text}");
     Ok(())
 }

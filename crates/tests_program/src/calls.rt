@@ -6,8 +6,8 @@ use crate::views::six;
 use ms_classfile::{class_files_are_read, members_are_distinct, pools_lie_in_their_file};
 use ms_code::codes_are_read;
 use ms_program::{
-    File, MethodBody, Program, files_are_read, first_fault, instructions_are_of_the_subset,
-    members_have_first_items, read_file, views_lead_to_views,
+    File, MethodBody, Program, bodies_have_whole_codes, files_are_read, first_fault,
+    instructions_are_of_the_subset, members_have_first_items, read_file, views_lead_to_views,
 };
 use std::alloc::{AllocError, Global};
 use std::fmt::Write;
@@ -137,6 +137,7 @@ fn laws_do_nothing(_rt: HostRuntime) {
     members_are_distinct();
     pools_lie_in_their_file();
     codes_are_read();
+    bodies_have_whole_codes();
     views_lead_to_views();
     members_have_first_items();
     instructions_are_of_the_subset();
