@@ -1,50 +1,69 @@
--- The verifier computed on small methods: at most two places on the stack, two locals, one parameter and an int as result.
-use Rattle.std.proofs.Common.{◌≡◌, ℕ, ℤ, pos, List, [], ◌∷◌, Option, Some, None, refl}
-use Rattle.ms_words.specs.declared.descriptor.FieldType.TheVariants as types
-use Rattle.ms_words.specs.declared.kind.Kind.TheVariants.{I}
-use Rattle.ms_words.specs.declared.operator.Bin.TheVariants.{Add}
-use Rattle.ms_machine.specs.Instructions.{Instr, OfInt, Push, PushNull, Load, Combine, CompareZero, Equal, ReturnValue, ReturnVoid}
+-- The verifier computed on small methods: one of each fault at least, and what is accepted.
+use Rattle.std.proofs.Common.{[], ◌∷◌, Some, refl}
+use Rattle.ms_typing.specs.declared.kind.PlaceKind.TheVariants.{Int, Null, Array, Unset}
 use Rattle.ms_typing.specs.declared.kind.VerifyKind.TheVariants.{Depth, Kind, Local, FallOff, Merge, Return}
-use Rattle.ms_typing.specs.Verifier.{Accepted, Cell, Fault, Line, Method, Rests, Stops, Turns, Verifies}
-
-abbrev line : Instr → ℕ → List ℕ → Option Line
-line instr next targets = Some (record { instr = instr; next = Some next; targets = targets; handlers = [] })
-
-abbrev last : Instr → Option Line
-last instr = Some (record { instr = instr; next = None; targets = []; handlers = [] })
-
-abbrev method : List (Option Line) → Method
-method lines = record { profile = record { max_stack = 2; max_locals = 2; parameters = types.Int I ∷ []; result = Some (types.Int I) }; lines = lines }
+use Rattle.ms_typing.proofs.Written.{Accepts, Refuses, aconst_null, aload, areturn, arraylength, at, by_turns, iadd, iconst, ifeq, iinc, iload, int, ints, ireturn, istore, ldc, method, profile, returns, small}
 
 -- iload_0 alone
-falls_off : Verifies (method (last (Load OfInt 0) ∷ [])) (Fault 0 FallOff)
-falls_off = Stops _ _ 0 FallOff refl refl
+falls_off : Refuses (method small [] (iload 0 ∷ [])) 0 FallOff
+falls_off = by_turns 1 _ _ refl
 
 -- ireturn alone
-too_few : Verifies (method (last (ReturnValue OfInt) ∷ [])) (Fault 0 Depth)
-too_few = Stops _ _ 0 Depth refl refl
+too_few : Refuses (method small [] (ireturn ∷ [])) 0 Depth
+too_few = by_turns 1 _ _ refl
 
--- aconst_null, iload_0, iadd, ireturn
-adds_null : Verifies (method (line PushNull 1 [] ∷ line (Load OfInt 0) 2 [] ∷ line (Combine Add) 3 [] ∷ last (ReturnValue OfInt) ∷ [])) (Fault 2 Kind)
-adds_null = Turns _ _ _ _ refl refl (Turns _ _ _ _ refl refl (Stops _ _ 2 Kind refl refl))
+-- null is added to an int
+adds_null : Refuses (method small [] (aconst_null ∷ iload 0 ∷ iadd ∷ ireturn ∷ [])) 2 Kind
+adds_null = by_turns 3 _ _ refl
 
--- iload_1, ireturn
-not_set : Verifies (method (line (Load OfInt 1) 1 [] ∷ last (ReturnValue OfInt) ∷ [])) (Fault 0 Local)
-not_set = Stops _ _ 0 Local refl refl
+-- a local that was never stored is loaded
+not_set : Refuses (method small [] (iload 1 ∷ ireturn ∷ [])) 0 Local
+not_set = by_turns 1 _ _ refl
 
--- iload_2, ireturn
-beyond : Verifies (method (line (Load OfInt 2) 1 [] ∷ last (ReturnValue OfInt) ∷ [])) (Fault 0 Local)
-beyond = Stops _ _ 0 Local refl refl
+-- a third local of two is loaded
+beyond : Refuses (method small [] (iload 2 ∷ ireturn ∷ [])) 0 Local
+beyond = by_turns 1 _ _ refl
 
--- iload_0, ifeq 5, iconst_0, 5: iconst_0, ireturn, where 5 is passed two depths
-two_depths : Verifies (method (line (Load OfInt 0) 1 [] ∷ line (CompareZero Equal) 4 (5 ∷ []) ∷ None ∷ None ∷ line (Push (pos 0)) 5 [] ∷ line (Push (pos 0)) 6 [] ∷ last (ReturnValue OfInt) ∷ [])) (Fault 5 Merge)
-two_depths = Turns _ _ _ _ refl refl (Turns _ _ _ _ refl refl (Stops _ _ 5 Merge refl refl))
+-- 5 is passed two depths
+two_depths : Refuses (method small [] (iload 0 ∷ ifeq 5 ∷ iconst 0 ∷ iconst 0 ∷ ireturn ∷ [])) 5 Merge
+two_depths = by_turns 3 _ _ refl
 
--- return
-returns_nothing : Verifies (method (last ReturnVoid ∷ [])) (Fault 0 Return)
-returns_nothing = Stops _ _ 0 Return refl refl
+-- nothing is returned where an int should be
+returns_nothing : Refuses (method small [] (returns ∷ [])) 0 Return
+returns_nothing = by_turns 1 _ _ refl
 
--- iload_0, ifeq 6, iconst_1, ireturn, 6: iconst_0, ireturn
-is_accepted : (cells : List Cell) × Verifies (method (line (Load OfInt 0) 1 [] ∷ line (CompareZero Equal) 4 (6 ∷ []) ∷ None ∷ None ∷ line (Push (pos 1)) 5 [] ∷ last (ReturnValue OfInt)
-    ∷ line (Push (pos 0)) 7 [] ∷ last (ReturnValue OfInt) ∷ [])) (Accepted cells)
-is_accepted = (_, Turns _ _ _ _ refl refl (Turns _ _ _ _ refl refl (Turns _ _ _ _ refl refl (Turns _ _ _ _ refl refl (Turns _ _ _ _ refl refl (Turns _ _ _ _ refl refl (Rests _ refl)))))))
+-- one int or another is returned
+is_accepted : Accepts (method small [] (iload 0 ∷ ifeq 6 ∷ iconst 1 ∷ ireturn ∷ iconst 0 ∷ ireturn ∷ []))
+    (at 0 (Int ∷ Unset ∷ []) [] ∷ at 1 (Int ∷ Unset ∷ []) (Int ∷ []) ∷ at 4 (Int ∷ Unset ∷ []) [] ∷ at 5 (Int ∷ Unset ∷ []) (Int ∷ [])
+    ∷ at 6 (Int ∷ Unset ∷ []) [] ∷ at 7 (Int ∷ Unset ∷ []) (Int ∷ []) ∷ [])
+is_accepted = by_turns 6 _ _ refl
+
+-- three ints where two have room
+too_many : Refuses (method small [] (iconst 1 ∷ iconst 1 ∷ iconst 1 ∷ ireturn ∷ [])) 2 Depth
+too_many = by_turns 3 _ _ refl
+
+-- a third local of two is stored
+stores_beyond : Refuses (method small [] (iload 0 ∷ istore 2 ∷ iload 0 ∷ ireturn ∷ [])) 1 Local
+stores_beyond = by_turns 2 _ _ refl
+
+-- a local that was never stored is incremented
+increments : Refuses (method small [] (iinc 1 ∷ iload 0 ∷ ireturn ∷ [])) 0 Local
+increments = by_turns 1 _ _ refl
+
+-- an int is returned where an array should be
+returns_int : Refuses (method (profile 2 2 (int ∷ []) (Some ints)) [] (iload 0 ∷ ireturn ∷ [])) 1 Return
+returns_int = by_turns 2 _ _ refl
+
+-- a string is returned where an array should be
+returns_text : Refuses (method (profile 2 2 (int ∷ []) (Some ints)) [] (ldc ∷ areturn ∷ [])) 2 Kind
+returns_text = by_turns 2 _ _ refl
+
+-- null may be
+returns_null : Accepts (method (profile 2 2 (int ∷ []) (Some ints)) [] (aconst_null ∷ areturn ∷ []))
+    (at 0 (Int ∷ Unset ∷ []) [] ∷ at 1 (Int ∷ Unset ∷ []) (Null ∷ []) ∷ [])
+returns_null = by_turns 2 _ _ refl
+
+-- the length of a parameter that is an array
+array_of_parameter : Accepts (method (profile 2 2 (ints ∷ int ∷ []) (Some int)) [] (aload 0 ∷ arraylength ∷ ireturn ∷ []))
+    (at 0 (Array ∷ Int ∷ []) [] ∷ at 1 (Array ∷ Int ∷ []) (Array ∷ []) ∷ at 2 (Array ∷ Int ∷ []) (Int ∷ []) ∷ [])
+array_of_parameter = by_turns 3 _ _ refl

@@ -7,22 +7,19 @@ use Rattle.ms_words.specs.declared.descriptor.FieldType.TheVariants as types
 use Rattle.ms_words.specs.declared.item.Item.{Item}
 use Rattle.ms_words.specs.declared.kind.Kind.{Kind}
 use Rattle.ms_words.specs.Inputs.{Words, are_of, is_of}
-use Rattle.ms_terms.specs.Terms.{Term}
-use Rattle.ms_machine.specs.Ints.{Ints, Int, Marked, ints, marks, shadows}
-use Rattle.ms_machine.specs.Instructions.{Initialiser, Absent, Present, Foreign, Comparison}
+use Rattle.ms_machine.specs.Ints.{Ints, ints, marks, shadows}
+use Rattle.ms_machine.specs.Instructions.{Initialiser, Absent, Present, Foreign}
 use Rattle.ms_machine.specs.Values as values
 use Rattle.ms_machine.specs.Values.{Value, End, Returned, ReturnedVoid, Threw, InitFailed, Missing, Runaway, Deep, SymLength, HeapFull, Stuck}
 use Rattle.ms_machine.specs.Effects.{Test, Compares, Divides, Selects, Indexes}
-use Rattle.ms_machine.specs.Control.{Program, Views, Frame, State, Done, Goes, Ends, Step, Then, Chooses, entry_frame, memory_at_start, start, step}
+use Rattle.ms_machine.specs.Control.{Program, Views, Done, Goes, Ends, Step, Then, Chooses, entry_frame, memory_at_start, start, step}
 use Rattle.ms_machine.specs.Tests.{arm_of, arms_of, both_known, known_test, one_known}
-use Rattle.ms_machine.specs.Segments.{After, Choice, Over, Segment, followed, forked, most_instructions, segment_from, segment_within}
+use Rattle.ms_machine.specs.Segments.{After, Choice, Over, followed, forked, most_instructions, segment_from, segment_within}
 use Rattle.ms_machine.specs.Runs.{IsInputOf, after_arms, done_after, given, given_from, started}
 use Rattle.ms_machine.specs.Laws.{HasArm, mark_of, marked_start, parameters_from, shadow_started}
-use Rattle.ms_typing.specs.declared.kind.PlaceKind.{PlaceKind}
-use Rattle.ms_typing.specs.declared.kind.PlaceKind.TheVariants.{Unset}
 use Rattle.ms_typing.specs.Rules.{kind_of}
 use Rattle.ms_typing.specs.Verifier.{filled}
-use Rattle.ms_typing.specs.Typed.{ArePossible, Begins, HaveKinds, HaveLocals, IsNeverStuck, IsSafe, IsSafeAfter, IsSafeStep, IsTyped, IsVerified, ReturnsNoArray, Runs, StaysSafe, Typings}
+use Rattle.ms_typing.specs.Typed.{ArePossible, Begins, HaveLocals, IsNeverStuck, IsSafe, IsSafeAfter, IsSafeStep, IsVerified, ReturnsNoArray, Runs, StaysSafe, Typings}
 use Rattle.ms_typing.proofs.Classes.{some_is}
 use Rattle.ms_typing.proofs.Values.{filled_locals, int_kind, second, wider_all, wider_locals}
 use Rattle.ms_typing.proofs.Safe.{enters_safe, step_safe}

@@ -1,5 +1,5 @@
 -- In a program whose items are fine, no step from a typed state is stuck, and each leads to a typed state.
-use Rattle.std.proofs.Common.{◌≡◌, ℕ, zero, suc, ◌+◌, ◌<◌, ◌≤◌, ◌==◌, ℤ, pos, negsuc, Bool, true, false, cond, not, ◌&&◌, List, [], ◌∷◌, ◌++◌, take, drop, length, map, replicate, reverse, nat_le, nat_lt, Option, Some, None, refl, sym, ap, ◌∙◌, subst, arith, slice_get, slice_set, length-append}
+use Rattle.std.proofs.Common.{◌≡◌, ℕ, zero, suc, ◌+◌, ◌<◌, ◌≤◌, ◌==◌, ℤ, pos, negsuc, Bool, true, false, cond, not, ◌&&◌, List, [], ◌∷◌, ◌++◌, take, drop, length, map, replicate, reverse, nat_le, nat_lt, Option, Some, None, refl, ◌∙◌, subst, arith, slice_get, slice_set, length-append}
 use Rattle.std.specs.Prelude.{is_none}
 use Rattle.std.proofs.lemmas.Bool.{eqb-false}
 use Rattle.std.proofs.lemmas.List.{length-map, length-replicate, length-reverse, length-set}
@@ -9,27 +9,25 @@ use Rattle.ms_words.specs.declared.item.Item.{Item}
 use Rattle.ms_words.specs.declared.operator.Bin.TheVariants.{Add}
 use Rattle.ms_words.specs.declared.thrown.Thrown.{Thrown}
 use Rattle.ms_words.specs.declared.thrown.Thrown.TheVariants as throwables
-use Rattle.ms_words.specs.Descriptors.{Signature, field_type_of}
+use Rattle.ms_words.specs.Descriptors.{Signature}
 use Rattle.ms_words.specs.Throwables.{is_a, number_of}
 use Rattle.ms_machine.specs.Ints.{Ints}
 use Rattle.ms_machine.specs.Instructions as instructions
 use Rattle.ms_machine.specs.Instructions.{Comparison, Initialiser, Absent, Present, Foreign, Sort, OfInt, OfReference, Member, Instr, Skip, Push, PushNull, PushText, Load, Store, Shuffle, Change, Combine, Divide, Increment, Compare, CompareZero, CompareReferences, CompareNull, Goto, Switch, ReturnValue, ReturnVoid, GetStatic, PutStatic, Invoke, Construct, Throw, NewArray, ArrayLength, ArrayLoad, ArrayStore}
 use Rattle.ms_machine.specs.Values as values
 use Rattle.ms_machine.specs.Values.{Value, Throwable, Static, Memory, End, Returned, ReturnedVoid, Threw, InitFailed, Missing, Deep, HeapFull, SymLength, are_same, cells_of, is_null, is_started, made_in, with_local, with_static}
-use Rattle.ms_machine.specs.Effects.{Here, Where, Next, Target, Doing, Moves, Calls, Initialises, Returns, Raises, Stops, Test, Compares, Divides, Selects, Indexes, Effect, Does, Asks, access, access_in, as_int, by_arm, by_initialiser, effect, field_name, first_value, get_static, greatest_length, initialiser_name, invoke, is_as, jump, jump_if, make_array, making, method_name, most_cells, most_made, new_array, next, on_array, on_cell, on_int, on_local, on_some, on_top, once_started, put_static, starting, store_cell, taking, throwing, thrown, values_at}
-use Rattle.ms_machine.specs.Control.{Frame, Handler, State, Done, Goes, Ends, Step, View, Views, catching, caught, enters, goes_on, here_of, leaving, left_with, most_frames, onto, perform, performed, place, returned_with, returns, step, throws, viewed}
+use Rattle.ms_machine.specs.Effects.{Here, Where, Next, Target, Doing, Moves, Initialises, Raises, Stops, Effect, Does, access, access_in, as_int, by_arm, by_initialiser, effect, field_name, first_value, get_static, greatest_length, initialiser_name, invoke, is_as, jump_if, make_array, making, method_name, most_cells, most_made, new_array, next, on_array, on_cell, on_int, on_local, on_top, put_static, starting, store_cell, taking, throwing, thrown, values_at}
+use Rattle.ms_machine.specs.Control.{Frame, Handler, State, Done, Goes, Ends, View, Views, catching, caught, enters, goes_on, here_of, leaving, left_with, most_frames, onto, perform, performed, place, returned_with, returns, step, throws}
 use Rattle.ms_typing.specs.declared.kind.PlaceKind.{PlaceKind}
 use Rattle.ms_typing.specs.declared.kind.PlaceKind.TheVariants.{Int, Null, Array, Text, Ref, New, Unset}
 use Rattle.ms_typing.specs.declared.kind.PlaceKind.TheVariants as kinds
-use Rattle.ms_typing.specs.declared.kind.VerifyKind.{VerifyKind}
 use Rattle.ms_typing.specs.declared.kind.VerifyKind.TheVariants.{Depth, Kind, Local, FallOff, Return}
-use Rattle.ms_typing.specs.Kinds.{Shape, Tag, IsInt, IsNull, IsArray, IsText, IsThrown, IsNew, Within, holds, same_class}
+use Rattle.ms_typing.specs.Kinds.{Shape, Tag, IsInt, IsNull, IsArray, IsText, IsThrown, IsNew, holds}
 use Rattle.ms_typing.specs.Rules as rules
 use Rattle.ms_typing.specs.Rules.{Profile, Want, AnInt, AnArray, AThrowable, AText, AReference, AReferenceOrNew, ANew, Anything, after, all_meet, constructed_from, fault, first_fault, gives, has_depth, has_kinds, has_local, initialised, is_made_at, is_set, is_there, kind_at, kind_of, local_meets, local_of, local_want, locals_after, made_at, may_make, meets, or_none, reads, reads_set, rest_after, result_kinds, returned_want, returns_right, takes, tests, unset, want_of}
 use Rattle.ms_typing.specs.Verifier.{filled}
-use Rattle.ms_typing.specs.Typed.{AllLead, AreBelow, AreFine, Begins, HasFieldType, HasKind, HaveKinds, HaveLocals, HaveTypes, Is, IsFine, IsReachable, IsSafe, IsSafeStep, IsTyped, Leads, ReturnsNoArray, Runs, Typing, Typings, Waits, member_of, moves_its_own, targets_of}
-use Rattle.ms_typing.proofs.Classes.{some_is}
-use Rattle.ms_typing.proofs.Values.{Meets, admits, appended_kinds, arguments, changed_local, filled_locals, first, held_local, initialised_survives, int_kind, kind_more, kinds_more, locals_more, mapped_kinds, mapped_locals, meets_want, null_kind, put_back, second, static_kind, statics_more, stored_local, stored_static, typed_kind, unset_survives, wider_all, wider_locals}
+use Rattle.ms_typing.specs.Typed.{AllLead, AreBelow, AreFine, Begins, HasFieldType, HasKind, HaveKinds, HaveLocals, HaveTypes, Is, IsReachable, IsSafe, IsSafeStep, IsTyped, Leads, ReturnsNoArray, Runs, Typings, Waits, member_of, moves_its_own, targets_of}
+use Rattle.ms_typing.proofs.Values.{Meets, admits, appended_kinds, arguments, changed_local, filled_locals, first, held_local, initialised_survives, int_kind, kinds_more, locals_more, mapped_kinds, mapped_locals, meets_want, null_kind, put_back, second, static_kind, statics_more, stored_local, stored_static, typed_kind, unset_survives, wider_all, wider_locals}
 
 equal_to_itself : (n : ℕ) → (n == n) ≡ true
 equal_to_itself n = by_test (n == n) refl

@@ -1,14 +1,13 @@
 -- Values of kinds: what wider kinds, more arrays, and the maps of kinds keep.
-use Rattle.std.proofs.Common.{◌≡◌, ℕ, zero, suc, ◌<◌, ◌≤◌, ◌==◌, Bool, true, false, cond, ◌&&◌, List, [], ◌∷◌, ◌++◌, take, drop, length, map, reverse, nat_lt, Option, Some, None, refl, sym, ap, ◌∙◌, subst, subst₂, arith, slice_get, slice_set}
+use Rattle.std.proofs.Common.{◌≡◌, ℕ, zero, suc, ◌<◌, ◌≤◌, ◌==◌, Bool, true, false, cond, ◌&&◌, List, [], ◌∷◌, ◌++◌, take, length, map, reverse, nat_lt, Option, Some, None, refl, sym, ap, ◌∙◌, subst, subst₂, arith, slice_get, slice_set}
 use Rattle.std.specs.List.{list_all}
 use Rattle.std.proofs.lemmas.Bool.{ltb-true}
 use Rattle.std.proofs.lemmas.List.{length-map, length-reverse, reverse-reverse}
 use Rattle.ms_words.specs.declared.descriptor.FieldType.{FieldType}
 use Rattle.ms_words.specs.declared.descriptor.FieldType.TheVariants as types
 use Rattle.ms_words.specs.declared.thrown.Thrown.{Thrown}
-use Rattle.ms_words.specs.declared.thrown.Thrown.TheVariants as throwables
 use Rattle.ms_words.specs.Descriptors.{field_type_of}
-use Rattle.ms_words.specs.Throwables.{is_a, number_of}
+use Rattle.ms_words.specs.Throwables.{is_a}
 use Rattle.ms_machine.specs.Values as values
 use Rattle.ms_machine.specs.Values.{Value, Throwable, Static, is_field, static_value, with_local, with_static}
 use Rattle.ms_machine.specs.Effects.{values_at, with_value}
@@ -16,10 +15,10 @@ use Rattle.ms_typing.specs.declared.kind.PlaceKind.{PlaceKind}
 use Rattle.ms_typing.specs.declared.kind.PlaceKind.TheVariants.{Int, Null, Array, Text, Ref, New, Unset}
 use Rattle.ms_typing.specs.declared.kind.PlaceKind.TheVariants as kinds
 use Rattle.ms_typing.specs.Kinds.{AreWithin, IsWithin, Tag, IsInt, IsNull, IsArray, IsText, IsThrown, IsNew, holds, same_class}
-use Rattle.ms_typing.specs.Rules.{Want, AnInt, AnArray, AThrowable, AText, AReference, AReferenceOrNew, ANew, Anything, all_meet, class_of, initialised, is_made_at, is_set, kind_at, kind_of, meets, or_none, unset, want_of}
+use Rattle.ms_typing.specs.Rules.{Want, AnInt, AnArray, AThrowable, AText, AReference, AReferenceOrNew, ANew, Anything, all_meet, initialised, is_made_at, is_set, kind_at, kind_of, meets, or_none, unset, want_of}
 use Rattle.ms_typing.specs.Verifier.{filled}
 use Rattle.ms_typing.proofs.Classes.{is_a_self, same_class_is, some_is}
-use Rattle.ms_typing.specs.Typed.{HasKind, HasLocal, HaveKinds, HaveLocals, HaveTypes, Is}
+use Rattle.ms_typing.specs.Typed.{HasKind, HaveKinds, HaveLocals, HaveTypes, Is}
 use Rattle.std.specs.Str.{bytes_eq}
 use Rattle.std.specs.Cmp.Lexicographic.{bytes_decides}
 use mathlib.Core.List.{reverse_aux}

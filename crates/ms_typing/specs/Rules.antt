@@ -1,5 +1,5 @@
 -- What each instruction asks of the kinds of a frame, and what it leaves (JVMS SE 8, sections 4.9.2 and 6.5).
-use Rattle.std.specs.Prelude.{◌≡◌, ℕ, zero, suc, ◌==◌, Bool, true, false, cond, not, ◌&&◌, ◌||◌, List, [], ◌∷◌, ◌++◌, length, map, reverse, replicate, drop, nat_le, nat_lt, Option, Some, None, slice_set}
+use Rattle.std.specs.Prelude.{ℕ, zero, suc, ◌==◌, Bool, true, false, cond, not, ◌&&◌, ◌||◌, List, [], ◌∷◌, ◌++◌, length, map, reverse, replicate, drop, nat_le, nat_lt, Option, Some, None, slice_set}
 use Rattle.std.specs.List.{list_all}
 use Rattle.ms_words.specs.declared.descriptor.FieldType.{FieldType}
 use Rattle.ms_words.specs.declared.descriptor.FieldType.TheVariants as types

@@ -1,6 +1,6 @@
 -- The type rules of a method without the order in which they are tested: there are shapes of its reached offsets such that
 -- each instruction has no fault and what it passes on is held where it goes.
-use Rattle.std.specs.Prelude.{◌≡◌, ◌↔◌, ℕ, ◌<◌, List, length, Option, Some, None, is_none, slice_get}
+use Rattle.std.specs.Prelude.{◌≡◌, ℕ, List, Option, Some, None, is_none, slice_get}
 use Rattle.ms_typing.specs.Kinds.{Shape, Within}
 use Rattle.ms_typing.specs.Rules.{fault}
 use Rattle.ms_typing.specs.Verifier.{Accepted, Cell, Line, Method, Outcome, Settled, Unreached, Verifies, Waiting, entered, line_at, passes}

@@ -1,7 +1,6 @@
 -- Verification by type inference (JVMS SE 8, section 4.10.2.2): the offsets of a method are taken one by one, always the
 -- lowest that waits, until one has a fault or none waits.
-use Rattle.std.specs.Prelude.{◌≡◌, ℕ, zero, suc, ◌==◌, Bool, true, false, cond, ◌&&◌, List, [], ◌∷◌, ◌++◌, length, map, replicate, nat_le, Option, Some, None, is_none, slice_get, slice_set}
-use Rattle.ms_words.specs.declared.descriptor.FieldType.{FieldType}
+use Rattle.std.specs.Prelude.{◌≡◌, ℕ, zero, suc, ◌==◌, Bool, true, cond, List, [], ◌∷◌, ◌++◌, length, map, replicate, nat_le, Option, Some, None, is_none, slice_get, slice_set}
 use Rattle.ms_words.specs.declared.thrown.Thrown.{Thrown}
 use Rattle.ms_machine.specs.Instructions.{Instr}
 use Rattle.ms_typing.specs.declared.kind.PlaceKind.{PlaceKind}

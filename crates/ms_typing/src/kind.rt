@@ -1,7 +1,7 @@
 use ms_words::Thrown;
 
 /// What a place of a frame, a local or a place of the operand stack, may hold (JVMS SE 8, section 4.10.2.2).
-#[derive(Clone, Copy, PartialEq, Eq)]
+#[derive(Clone, Copy, Debug, PartialEq, Eq)]
 pub enum PlaceKind {
     /// An int.
     Int,
@@ -22,7 +22,7 @@ pub enum PlaceKind {
 }
 
 /// What is wrong with a method (JVMS SE 8, sections 4.9.2 and 4.10.2.2).
-#[derive(Clone, Copy, PartialEq, Eq)]
+#[derive(Clone, Copy, Debug, PartialEq, Eq)]
 pub enum VerifyKind {
     /// Too few operands, or too many places on the operand stack before or after the instruction.
     Depth,

@@ -1,0 +1,3 @@
+pub mod Methods
+pub mod Told
+pub mod Checking
