@@ -16,7 +16,7 @@ use Rattle.ms_typing.specs.declared.kind.VerifyKind.{VerifyKind}
 use Rattle.ms_typing.specs.Kinds.{Shape, Within, is_reference, joined, joined_kind, joined_kinds, joined_references, same_kind, same_shape}
 use Rattle.ms_typing.specs.Rules.{after, class_of, constructed_from, fault, gives, is_made_at, kind_at, kind_of, locals_after, made_at, may_make, none_made_at, or_none, rest_after, result_kinds, takes}
 use Rattle.ms_typing.specs.Verifier.{Accepted, Cell, Ends, Fails, Fault, Leaves, Line, Method, Outcome, Rests, Settled, Stops, Turns, Unreached, Verifies, Waiting, entered, filled, line_at, lowest, or_no, pass_all, passes, received, same_depth, start, successors, to_handler, turn}
-use Rattle.ms_typing.specs.Solutions.{IsSolution, Takes, shape_at, shape_in, shape_of}
+use Rattle.ms_typing.specs.Solutions.{IsSolution, Admits, shape_at, shape_in, shape_of}
 use Rattle.ms_typing.proofs.Classes.{some_is}
 use Rattle.ms_typing.proofs.Joins.{all_within_self, within_long, within_wider}
 use Rattle.ms_typing.proofs.Sound.{accepted_is, cells_long, leaves_is, lowest_waits, stored_each, unreached_empty, with_code}
@@ -207,14 +207,14 @@ module _ (method : Method) (solution : List Cell) (rules : IsSolution method sol
   -- offset and at those that aren't reached.
   pub record IsBounded (cells : List Cell) : Type 0 where
     pub long : length cells ≡ length method.lines
-    pub within : (offset : ℕ) (shape : Shape) → shape_at cells offset ≡ Some shape → Takes solution offset shape
+    pub within : (offset : ℕ) (shape : Shape) → shape_at cells offset ≡ Some shape → Admits solution offset shape
     pub free : (offset : ℕ) (shape : Shape) → shape_at cells offset ≡ Some shape → (place : ℕ) → (place ≡ offset) ⊎ (shape_at cells place ≡ None) → IsFreeShape place shape
 
   abbrev AllTaken : List (ℕ × Shape) → Type 0
   AllTaken [] = Unit {0}
-  AllTaken (passed ∷ others) = Takes solution passed.0 passed.1 × AllTaken others
+  AllTaken (passed ∷ others) = Admits solution passed.0 passed.1 × AllTaken others
 
-  lower_taken : (offset : ℕ) (shape other : Shape) → Within shape other → Takes solution offset other → Takes solution offset shape
+  lower_taken : (offset : ℕ) (shape other : Shape) → Within shape other → Admits solution offset other → Admits solution offset shape
   lower_taken offset shape other u t = record { wider = t.wider; at = t.at; within = within_wider shape other t.wider u t.within }
 
   -- RECEIVING
@@ -225,18 +225,18 @@ module _ (method : Method) (solution : List Cell) (rules : IsSolution method sol
     pub is : received old shape ≡ Some cell
     pub new : Shape
     pub at : shape_of cell ≡ Some new
-    pub taken : Takes solution offset new
+    pub taken : Admits solution offset new
     pub free : (place : ℕ) → ((held : Shape) → shape_of old ≡ Some held → IsFreeShape place held) → (shape_of old ≡ None → IsFreeShape place shape) → IsFreeShape place new
 
-  of_one_depth : (offset : ℕ) (held shape : Shape) → Takes solution offset held → Takes solution offset shape → same_depth held shape ≡ true
+  of_one_depth : (offset : ℕ) (held shape : Shape) → Admits solution offset held → Admits solution offset shape → same_depth held shape ≡ true
   of_one_depth offset held shape a b =
       let e : a.wider ≡ b.wider = some_is _ _ (sym a.at ∙ b.at) in
       eq-eqb _ _ (within_long _ _ a.within.1 ∙ (ap (λ (x : Shape). length x.stack) e ∙ sym (within_long _ _ b.within.1)))
 
-  joined_taken : (offset : ℕ) (held shape : Shape) → Takes solution offset held → Takes solution offset shape → Takes solution offset (joined held shape)
+  joined_taken : (offset : ℕ) (held shape : Shape) → Admits solution offset held → Admits solution offset shape → Admits solution offset (joined held shape)
   joined_taken offset held shape a b = record { wider = a.wider; at = a.at; within = joined_shape_least held shape a.wider a.within (subst (Within shape) (some_is _ _ (sym b.at ∙ a.at)) b.within) }
 
-  got : (offset : ℕ) (old : Cell) (shape : Shape) → ((held : Shape) → shape_of old ≡ Some held → Takes solution offset held) → Takes solution offset shape → Got offset old shape
+  got : (offset : ℕ) (old : Cell) (shape : Shape) → ((held : Shape) → shape_of old ≡ Some held → Admits solution offset held) → Admits solution offset shape → Got offset old shape
   got offset Unreached shape a b = record { cell = Waiting shape; is = refl; new = shape; at = refl; taken = b; free = λ place f g. g refl }
   got offset (Waiting held) shape a b = record {
     cell = Waiting (joined held shape);
@@ -270,8 +270,8 @@ module _ (method : Method) (solution : List Cell) (rules : IsSolution method sol
       → ((place : ℕ) → shape_at cells place ≡ None → IsFreeShape place shape) → IsBounded (slice_set cells offset g.cell)
   stored_bounded cells offset old shape b e g f = record {
     long = cells_long cells offset g.cell ∙ b.long;
-    within = stored_each (λ q x. (held : Shape) → shape_in x ≡ Some held → Takes solution q held) cells offset old g.cell e
-        (λ held h. subst (Takes solution offset) (some_is g.new held (sym g.at ∙ h)) g.taken) b.within;
+    within = stored_each (λ q x. (held : Shape) → shape_in x ≡ Some held → Admits solution q held) cells offset old g.cell e
+        (λ held h. subst (Admits solution offset) (some_is g.new held (sym g.at ∙ h)) g.taken) b.within;
     free = stored_each (λ q x. (held : Shape) → shape_in x ≡ Some held → (place : ℕ) → (place ≡ q) ⊎ (shape_at (slice_set cells offset g.cell) place ≡ None) → IsFreeShape place held) cells offset old g.cell e
         (λ held h place w. subst (IsFreeShape place) (some_is g.new held (sym g.at ∙ h))
         (g.free place (λ x y. b.free offset x (ap shape_in e ∙ y) place (before offset place w)) (λ y. f place (elim w [ inl z ↦ ap (shape_at cells) z ∙ (ap shape_in e ∙ y) | inr z ↦ gone place z ]))))
@@ -306,7 +306,7 @@ module _ (method : Method) (solution : List Cell) (rules : IsSolution method sol
   }
 
   -- the solution takes what it passes on from its own shape, and so what is passed on from a lower one
-  each_taken : (passed : List (ℕ × Shape)) → ((n : ℕ) (one : ℕ × Shape) → slice_get passed n ≡ Some one → Takes solution one.0 one.1) → AllTaken passed
+  each_taken : (passed : List (ℕ × Shape)) → ((n : ℕ) (one : ℕ × Shape) → slice_get passed n ≡ Some one → Admits solution one.0 one.1) → AllTaken passed
   each_taken [] h = tt
   each_taken (p ∷ passed) h = (h 0 p refl, each_taken passed (λ n one e. h (suc n) one e))
 
@@ -359,8 +359,8 @@ module _ (method : Method) (solution : List Cell) (rules : IsSolution method sol
   start_bounded : 0 < length method.lines → IsBounded (start method)
   start_bounded l = with_code method IsBounded l (λ count e. record { long = ap suc (length-replicate count Unreached) ∙ sym e; within = first count; free = fresh count })
     where
-      first : (count offset : ℕ) (shape : Shape) → shape_at (Waiting (entered method.profile) ∷ replicate count Unreached) offset ≡ Some shape → Takes solution offset shape
-      first count zero shape h = subst (Takes solution 0) (some_is _ shape h) rules.entry
+      first : (count offset : ℕ) (shape : Shape) → shape_at (Waiting (entered method.profile) ∷ replicate count Unreached) offset ≡ Some shape → Admits solution offset shape
+      first count zero shape h = subst (Admits solution 0) (some_is _ shape h) rules.entry
       first count (suc offset) shape h = absurd (unreached_empty count offset shape h)
 
       fresh : (count offset : ℕ) (shape : Shape) → shape_at (Waiting (entered method.profile) ∷ replicate count Unreached) offset ≡ Some shape
@@ -371,7 +371,7 @@ module _ (method : Method) (solution : List Cell) (rules : IsSolution method sol
   -- THE END
 
   -- the last shapes are within the solution
-  pub last_least : 0 < length method.lines → (last : List Cell) → Verifies method (Accepted last) → (offset : ℕ) (shape : Shape) → shape_at last offset ≡ Some shape → Takes solution offset shape
+  pub last_least : 0 < length method.lines → (last : List Cell) → Verifies method (Accepted last) → (offset : ℕ) (shape : Shape) → shape_at last offset ≡ Some shape → Admits solution offset shape
   last_least l last h = (last_bounded (start method) (Accepted last) h (start_bounded l) last refl).within
 
   -- a method that has a solution has no fault

@@ -161,5 +161,6 @@ never_stuck take P T verified = record {
   inputs = λ x is arms possible. stays_safe take P T verified ints (started P x) (start_safe take P T verified ints (given x) (inputs_many P x is)) arms possible;
   marked = λ x is arms possible. stays_safe take P T verified marks (marked_start P x) (start_safe take P T verified marks (map mark_of (given x)) (length-map (given x) mark_of ∙ inputs_many P x is)) arms possible;
   term_steps = λ state typed. step_safe P.view T verified.items shadows state typed;
+  int_steps = λ state typed. step_safe P.view T verified.items ints state typed;
   mark_steps = λ state typed. step_safe P.view T verified.items marks state typed;
 }

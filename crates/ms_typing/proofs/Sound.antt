@@ -11,7 +11,7 @@ use Rattle.ms_typing.specs.declared.kind.VerifyKind.{VerifyKind}
 use Rattle.ms_typing.specs.Kinds.{Shape, Within, joined, same_shape}
 use Rattle.ms_typing.specs.Rules.{after, fault, locals_after}
 use Rattle.ms_typing.specs.Verifier.{Accepted, Cell, Ends, Leaves, Line, Method, Outcome, Rests, Settled, Stops, Turns, Unreached, Verifies, Waiting, and_then, entered, filled, further, given, line_at, lowest, pass_all, passes, received, same_depth, start, successors, taken, to_handler, turn, unless_at_fault}
-use Rattle.ms_typing.specs.Solutions.{Holds, IsSolution, Takes, shape_at, shape_in, shape_of}
+use Rattle.ms_typing.specs.Solutions.{Obeys, IsSolution, Admits, shape_at, shape_in, shape_of}
 use Rattle.ms_typing.proofs.Classes.{some_is}
 use Rattle.ms_typing.proofs.Joins.{joined_holds_left, joined_holds_right, joined_long, same_shape_is, within_self, within_wider}
 
@@ -58,7 +58,7 @@ later_more old new last p q = record {
 }
 
 -- what is taken is taken later
-takes_later : (cells next : List Cell) (offset : ℕ) (shape : Shape) → AllLater cells next → Takes cells offset shape → Takes next offset shape
+takes_later : (cells next : List Cell) (offset : ℕ) (shape : Shape) → AllLater cells next → Admits cells offset shape → Admits next offset shape
 takes_later cells next offset shape g t = let x = (g offset).grows t.wider t.at in record { wider = x.0; at = x.1; within = within_wider shape t.wider x.0 t.within x.2 }
 
 -- SIZES
@@ -166,11 +166,11 @@ receives count (Settled held) new shape z l e = go (same_depth held shape) refl 
 pub record Passes (count : ℕ) (cells next : List Cell) (passed : List (ℕ × Shape)) : Type 0 where
   pub later : AllLater cells next
   pub sized : AllSized count next
-  pub takes : (n : ℕ) (one : ℕ × Shape) → slice_get passed n ≡ Some one → Takes next one.0 one.1
+  pub takes : (n : ℕ) (one : ℕ × Shape) → slice_get passed n ≡ Some one → Admits next one.0 one.1
 
 -- one offset is passed one shape
 stored : (count : ℕ) (cells : List Cell) (offset : ℕ) (old new : Cell) (shape : Shape) → AllSized count cells → slice_get cells offset ≡ Some old → Receives count old new shape
-    → AllLater cells (slice_set cells offset new) × AllSized count (slice_set cells offset new) × Takes (slice_set cells offset new) offset shape
+    → AllLater cells (slice_set cells offset new) × AllSized count (slice_set cells offset new) × Admits (slice_set cells offset new) offset shape
 stored count cells offset old new shape z e r = (
   stored_each (λ place x. Later (slice_get cells place) x) cells offset old new e (subst (λ x. Later x (Some new)) (sym e) r.later) (λ place. later_self _),
   stored_each (λ place x. Sized count x) cells offset old new e (λ t f. subst (λ (x : Shape). length x.locals ≡ count) (some_is _ _ (sym r.at ∙ f)) r.sized) z,
@@ -185,8 +185,8 @@ pub all_pass : (count : ℕ) (passed : List (ℕ × Shape)) (cells next : List C
 all_pass count [] cells next z q e = subst (λ x. Passes count cells x []) (leaves_is _ _ e) (record { later = λ offset. later_self _; sized = z; takes = λ n one h. cc })
 all_pass count (p ∷ passed) cells next z q e = found (slice_get cells p.0) refl (λ new y h. all_pass count passed (slice_set cells p.0 new) next y q.1 h) e
   where
-    each : (new : Cell) → Takes (slice_set cells p.0 new) p.0 p.1 → Passes count (slice_set cells p.0 new) next passed → (n : ℕ) (one : ℕ × Shape) → slice_get (p ∷ passed) n ≡ Some one → Takes next one.0 one.1
-    each new t i zero one g = subst (λ (y : ℕ × Shape). Takes next y.0 y.1) (some_is p one g) (takes_later _ next p.0 p.1 i.later t)
+    each : (new : Cell) → Admits (slice_set cells p.0 new) p.0 p.1 → Passes count (slice_set cells p.0 new) next passed → (n : ℕ) (one : ℕ × Shape) → slice_get (p ∷ passed) n ≡ Some one → Admits next one.0 one.1
+    each new t i zero one g = subst (λ (y : ℕ × Shape). Admits next y.0 y.1) (some_is p one g) (takes_later _ next p.0 p.1 i.later t)
     each new t i (suc n) one g = i.takes n one g
 
     got : (old : Cell) → slice_get cells p.0 ≡ Some old → (o : Option Cell) → received old p.1 ≡ o
@@ -238,8 +238,8 @@ none_waits (Settled held ∷ cells) (suc offset) shape e h = none_waits cells of
 -- hold of each offset that is settled
 pub record Sofar (method : Method) (cells : List Cell) : Type 0 where
   pub sized : AllSized method.profile.max_locals cells
-  pub entry : Takes cells 0 (entered method.profile)
-  pub each : (offset : ℕ) (shape : Shape) → slice_get cells offset ≡ Some (Settled shape) → Holds method cells offset shape
+  pub entry : Admits cells 0 (entered method.profile)
+  pub each : (offset : ℕ) (shape : Shape) → slice_get cells offset ≡ Some (Settled shape) → Obeys method cells offset shape
 
 -- to settle what waits leaves all shapes as they are, and no other offset is settled
 settle_keeps : (cells : List Cell) (offset : ℕ) (shape : Shape) → slice_get cells offset ≡ Some (Waiting shape)
@@ -258,7 +258,7 @@ settled_before cells offset shape e =
 
 -- what is taken before the offset is settled is taken at the end of the turn
 takes_on : (cells next : List Cell) (offset : ℕ) (shape : Shape) → slice_get cells offset ≡ Some (Waiting shape) → AllLater (slice_set cells offset (Settled shape)) next
-    → (place : ℕ) (passed : Shape) → Takes cells place passed → Takes next place passed
+    → (place : ℕ) (passed : Shape) → Admits cells place passed → Admits next place passed
 takes_on cells next offset shape e g place passed t = takes_later _ next place passed g (record { wider = t.wider; at = settle_keeps cells offset shape e place t.wider t.at; within = t.within })
 
 -- a turn keeps it
@@ -271,7 +271,7 @@ turn_keeps method cells next waiting i e h = by_line (line_at method waiting.0) 
       sized = p.sized;
       entry = takes_on cells next waiting.0 waiting.1 at p.later 0 _ i.entry;
       each = λ offset shape f. elim (settled_before cells waiting.0 waiting.1 at offset shape ((p.later offset).settled shape f)) [
-        | inl x ↦ subst₂ (Holds method next) (sym x.0) x.1 (record { line = line; is = is; fine = fine; leads = p.takes })
+        | inl x ↦ subst₂ (Obeys method next) (sym x.0) x.1 (record { line = line; is = is; fine = fine; leads = p.takes })
         | inr x ↦ let y = i.each offset shape x in
             record { line = y.line; is = y.is; fine = y.fine; leads = λ n passed g. takes_on cells next waiting.0 waiting.1 at p.later passed.0 passed.1 (y.leads n passed g) }
       ];
@@ -325,7 +325,7 @@ start_holds method l = with_code method (Sofar method) l (λ count e. record {
     first count zero shape e = ap (λ x. length x.locals) (sym (some_is _ _ e)) ∙ filled_long method.profile.max_locals _
     first count (suc offset) shape e = absurd (unreached_empty count offset shape e)
 
-    none : (count offset : ℕ) (shape : Shape) → slice_get (Waiting (entered method.profile) ∷ replicate count Unreached) offset ≡ Some (Settled shape) → Holds method (Waiting (entered method.profile) ∷ replicate count Unreached) offset shape
+    none : (count offset : ℕ) (shape : Shape) → slice_get (Waiting (entered method.profile) ∷ replicate count Unreached) offset ≡ Some (Settled shape) → Obeys method (Waiting (entered method.profile) ∷ replicate count Unreached) offset shape
     none count zero shape e = cc
     none count (suc offset) shape e = absurd (unreached_empty count offset shape (ap shape_in e))
 

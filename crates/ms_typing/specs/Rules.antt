@@ -121,7 +121,7 @@ kind_at [] place = Unset
 kind_at (kind ∷ kinds) zero = kind
 kind_at (kind ∷ kinds) (suc place) = kind_at kinds place
 
--- kinds, or none
+-- these kinds, or the empty list
 abbrev pub or_none : Option (List PlaceKind) → List PlaceKind
 or_none None = []
 or_none (Some kinds) = kinds
@@ -158,12 +158,12 @@ is_made_at offset kind = false
 abbrev pub unset : ℕ → PlaceKind → PlaceKind
 unset offset kind = cond (is_made_at offset kind) Unset kind
 
--- the class of a throwable that isn't initialised
+-- the class of a throwable that isn't initialised; of another kind, which isn't asked for, Throwable
 abbrev pub class_of : PlaceKind → Thrown
 class_of (New offset class) = class
 class_of kind = throwables.Throwable
 
--- the offset where it was made
+-- the offset where it was made; of another kind, which isn't asked for, 0
 abbrev pub offset_of : PlaceKind → ℕ
 offset_of (New offset class) = offset
 offset_of kind = 0
@@ -214,7 +214,7 @@ pub record Profile : Type 0 where
   pub parameters : List FieldType
   pub result : Option FieldType
 
--- whether there are as many operands as it takes, and no more places than the method has, before it and after it
+-- whether there are at least as many operands as it takes, and no more places than the method has, before it and after it
 abbrev pub has_depth : Profile → ℕ → Instr → Shape → Bool
 has_depth profile offset instr shape =
     nat_le (length (takes instr)) (length shape.stack) && (nat_le (length shape.stack) profile.max_stack && nat_le (length (after offset instr shape).stack) profile.max_stack)
@@ -247,7 +247,8 @@ local_meets want local shape = true
 abbrev pub none_made_at : ℕ → List PlaceKind → Bool
 none_made_at offset stack = list_all (λ kind. not (is_made_at offset kind)) stack
 
--- whether no throwable that it made before is still on the stack, if it makes one
+-- Whether no throwable that it made before is still on the stack, if it makes one. In a method that is so of each shape that
+-- comes up, since what came to the offset first holds none, and a join with it unsets those that come later.
 abbrev pub may_make : ℕ → Instr → Shape → Bool
 may_make offset (instructions.New class) shape = none_made_at offset shape.stack
 may_make offset other shape = true
@@ -256,7 +257,7 @@ may_make offset other shape = true
 abbrev pub has_kinds : ℕ → Instr → Shape → Bool
 has_kinds offset instr shape = all_meet (takes instr) shape.stack && (local_meets (reads instr) (local_of instr) shape && may_make offset instr shape)
 
--- whether a return is that of a result
+-- whether an instruction, if it returns, returns what the result asks
 abbrev pub returns_right : Option FieldType → Instr → Bool
 returns_right (Some (types.Int kind)) (ReturnValue OfInt) = true
 returns_right (Some types.IntArray) (ReturnValue OfReference) = true

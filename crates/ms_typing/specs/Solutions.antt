@@ -20,22 +20,22 @@ abbrev pub shape_at : List Cell → ℕ → Option Shape
 shape_at cells offset = shape_in (slice_get cells offset)
 
 -- an offset has a shape that holds all that this one holds
-pub record Takes (cells : List Cell) (offset : ℕ) (shape : Shape) : Type 0 where
+pub record Admits (cells : List Cell) (offset : ℕ) (shape : Shape) : Type 0 where
   pub wider : Shape
   pub at : shape_at cells offset ≡ Some wider
   pub within : Within shape wider
 
 -- the instruction there has no fault, and each offset that it passes something on to takes it
-pub record Holds (method : Method) (cells : List Cell) (offset : ℕ) (shape : Shape) : Type 0 where
+pub record Obeys (method : Method) (cells : List Cell) (offset : ℕ) (shape : Shape) : Type 0 where
   pub line : Line
   pub is : line_at method offset ≡ Some line
   pub fine : fault method.profile offset line.instr (is_none line.next) shape ≡ None
-  pub leads : (n : ℕ) (passed : ℕ × Shape) → slice_get (passes offset line shape) n ≡ Some passed → Takes cells passed.0 passed.1
+  pub leads : (n : ℕ) (passed : ℕ × Shape) → slice_get (passes offset line shape) n ≡ Some passed → Admits cells passed.0 passed.1
 
 -- the rules hold of these shapes: offset 0 takes the parameters, and each offset that has a shape is so
 pub record IsSolution (method : Method) (cells : List Cell) : Type 0 where
-  pub entry : Takes cells 0 (entered method.profile)
-  pub each : (offset : ℕ) (shape : Shape) → shape_at cells offset ≡ Some shape → Holds method cells offset shape
+  pub entry : Admits cells 0 (entered method.profile)
+  pub each : (offset : ℕ) (shape : Shape) → shape_at cells offset ≡ Some shape → Obeys method cells offset shape
 
 -- WHAT IS SAID OF THE VERIFIER
 
@@ -56,4 +56,4 @@ HasSolution method = (cells : List Cell) × IsSolution method cells
 -- The last shapes of an accepted method are a solution, and the least: what they hold, each solution holds.
 pub record LastAreLeast (method : Method) (last : List Cell) : Type 0 where
   pub solution : IsSolution method last
-  pub least : (cells : List Cell) → IsSolution method cells → (offset : ℕ) (shape : Shape) → shape_at last offset ≡ Some shape → Takes cells offset shape
+  pub least : (cells : List Cell) → IsSolution method cells → (offset : ℕ) (shape : Shape) → shape_at last offset ≡ Some shape → Admits cells offset shape

@@ -7,7 +7,7 @@ use Rattle.ms_words.specs.declared.item.Item.{Item}
 use Rattle.ms_words.specs.Descriptors.{Signature, field_type_of}
 use Rattle.ms_words.specs.Inputs.{Words}
 use Rattle.ms_terms.specs.Terms.{Term}
-use Rattle.ms_machine.specs.Ints.{Ints, Marked, ints, marks, shadows}
+use Rattle.ms_machine.specs.Ints.{Int, Ints, Marked, ints, marks, shadows}
 use Rattle.ms_machine.specs.Instructions.{Member, Present, Instr, Shuffle, Compare, CompareZero, CompareReferences, CompareNull, Goto, Switch, GetStatic, PutStatic, Invoke}
 use Rattle.ms_machine.specs.Values as values
 use Rattle.ms_machine.specs.Values.{Value, Throwable, Static, Stuck}
@@ -49,6 +49,7 @@ AllLead T result (handler ∷ handlers) locals =
 
 -- a method of these parameters and this result begins there
 pub record Begins (T : Typings) (to : Option Item) (parameters : List FieldType) (result : Option FieldType) : Type 0 where
+  -- the locals of the method
   pub count : ℕ
   pub leads : Leads T result to (record { locals = filled count (map kind_of parameters); stack = [] })
 
@@ -231,4 +232,5 @@ pub record IsNeverStuck (P : Program) (T : Typings) : Type 0 where
   pub inputs : (x : Words) → IsInputOf P x → (arms : List ℕ) → ArePossible ints P.view (started P x) arms → StaysSafe ints P.view T (started P x) arms
   pub marked : (x : Words) → IsInputOf P x → (arms : List ℕ) → ArePossible marks P.view (marked_start P x) arms → StaysSafe marks P.view T (marked_start P x) arms
   pub term_steps : (state : State Term) → IsTyped P.view T state → IsSafeStep P.view T (step shadows P.view state)
+  pub int_steps : (state : State Int) → IsTyped P.view T state → IsSafeStep P.view T (step ints P.view state)
   pub mark_steps : (state : State Marked) → IsTyped P.view T state → IsSafeStep P.view T (step marks P.view state)

@@ -122,7 +122,8 @@ abbrev pub given : Option Cell → Shape → Option Cell
 given None shape = None
 given (Some cell) shape = received cell shape
 
--- goes on with one offset changed; stacks of two depths are a fault there
+-- goes on with one offset changed; stacks of two depths are a fault there, and so is an offset beyond the code, to which no
+-- decoded code leads
 abbrev pub and_then : List Cell → ℕ → Option Cell → (List Cell → Turn) → Turn
 and_then cells offset None go = Fails offset Merge
 and_then cells offset (Some cell) go = go (slice_set cells offset cell)
@@ -137,7 +138,7 @@ abbrev pub unless_at_fault : Option VerifyKind → ℕ → Turn → Turn
 unless_at_fault None offset turn = turn
 unless_at_fault (Some kind) offset turn = Fails offset kind
 
--- an offset with this instruction and this shape is taken; one without an instruction is beyond the code
+-- an offset with this instruction and this shape is taken; no decoded code leads to one without an instruction
 abbrev pub taken : Method → List Cell → ℕ → Shape → Option Line → Turn
 taken method cells offset shape None = Fails offset FallOff
 taken method cells offset shape (Some line) =

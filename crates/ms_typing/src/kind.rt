@@ -15,9 +15,10 @@ pub enum PlaceKind {
     Thrown(Thrown),
     /// Any reference to an object that is initialised, or null.
     Ref,
-    /// A throwable of this class that was made at this offset and isn't initialised.
+    /// A throwable of this class that was made at this offset and isn't initialised (section 4.10.2.4).
     New { offset: u16, class: Thrown },
-    /// Anything; it can't be read.
+    /// Nothing known. A local of this kind isn't read; on the stack only `pop`, `dup`, `swap` and their kin
+    /// take it.
     Unset,
 }
 
@@ -26,7 +27,8 @@ pub enum PlaceKind {
 pub enum VerifyKind {
     /// Too few operands, or too many places on the operand stack before or after the instruction.
     Depth,
-    /// A value that is read isn't of a kind that the instruction takes.
+    /// A value that is read isn't of a kind that the instruction takes; or `new` stands where one that it made
+    /// before is on the stack.
     Kind,
     /// A local beyond those of the method, or one that is read and holds nothing known.
     Local,

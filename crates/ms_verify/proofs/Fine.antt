@@ -21,7 +21,7 @@ use Rattle.ms_linking.specs.Linked.{initialiser_of, views_of, with_instr}
 use Rattle.ms_typing.specs.declared.kind.VerifyKind.TheVariants.{FallOff}
 use Rattle.ms_typing.specs.Kinds.{Shape}
 use Rattle.ms_typing.specs.Rules.{after, fault, goes_on, tests}
-use Rattle.ms_typing.specs.Solutions.{Holds, Takes, shape_at}
+use Rattle.ms_typing.specs.Solutions.{Obeys, Admits, shape_at}
 use Rattle.ms_typing.specs.Typed.{AllLead, AreFine, Begins, IsFine, IsReachable, Leads, member_of, targets_of}
 use Rattle.ms_typing.specs.Verifier.{Cell, Line, Method, if_any, successors, to_handler}
 use Rattle.ms_typing.proofs.Total.{each_test}
@@ -60,7 +60,7 @@ module _ (P : Program) (cells : ℕ → ℕ → List Cell) (known : IsKnown P ce
       subst (λ o. Begins (typings P cells) o [] None) (sym to.1) begins
 
   -- an item that is reached: a method's instruction and its shape, of which the rules hold, and what is seen there
-  module _ (class number offset : ℕ) (method : Method) (is : method_of P class number ≡ Some method) (shape : Shape) (holds : Holds method (cells class number) offset shape) (shows : Shows P class number offset holds.line) where
+  module _ (class number offset : ℕ) (method : Method) (is : method_of P class number ≡ Some method) (shape : Shape) (holds : Obeys method (cells class number) offset shape) (shows : Shows P class number offset holds.line) where
     abbrev line : Line
     line = holds.line
 
@@ -74,20 +74,20 @@ module _ (P : Program) (cells : ℕ → ℕ → List Cell) (known : IsKnown P ce
     -- WHERE IT LEADS
 
     -- to an offset that takes what it passes on
-    to_offset : (to : ℕ) (passed : Shape) (at : Option Item) → at ≡ Some (At class number to) → Takes (cells class number) to passed → Leads (typings P cells) method.profile.result at passed
+    to_offset : (to : ℕ) (passed : Shape) (at : Option Item) → at ≡ Some (At class number to) → Admits (cells class number) to passed → Leads (typings P cells) method.profile.result at passed
     to_offset to passed at at_is takes = leads_there P cells class number to method passed at is at_is takes
 
-    to_successor : (to : ℕ) → IsAmong to (if_any (goes_on line.instr) line.next ++ line.targets) → Takes (cells class number) to (after offset line.instr shape)
+    to_successor : (to : ℕ) → IsAmong to (if_any (goes_on line.instr) line.next ++ line.targets) → Admits (cells class number) to (after offset line.instr shape)
     to_successor to among =
         let found = among_left _ _ (map (to_handler shape) line.handlers) (among_mapped (λ successor. (successor, after offset line.instr shape)) to (successors line) (among_sorted to _ among)) in
         holds.leads found.0 _ found.1
 
-    to_its_handler : (handler : ℕ × Thrown) → IsAmong handler line.handlers → Takes (cells class number) handler.0 (to_handler shape handler).1
+    to_its_handler : (handler : ℕ × Thrown) → IsAmong handler line.handlers → Admits (cells class number) handler.0 (to_handler shape handler).1
     to_its_handler handler among =
         let found = among_right (to_handler shape handler) (map (λ successor. (successor, after offset line.instr shape)) (successors line)) (map (to_handler shape) line.handlers) (among_mapped (to_handler shape) handler line.handlers among) in
         holds.leads found.0 _ found.1
 
-    all_lead : (handlers : List (ℕ × Thrown)) → ((handler : ℕ × Thrown) → IsAmong handler handlers → Takes (cells class number) handler.0 (to_handler shape handler).1)
+    all_lead : (handlers : List (ℕ × Thrown)) → ((handler : ℕ × Thrown) → IsAmong handler handlers → Admits (cells class number) handler.0 (to_handler shape handler).1)
         → AllLead (typings P cells) method.profile.result (map (handler_at class number) handlers) shape.locals
     all_lead [] takes = tt
     all_lead (handler ∷ handlers) takes = (to_offset handler.0 _ _ refl (takes handler (0, refl)), all_lead handlers (λ other among. takes other (suc among.0, among.1)))

@@ -12,7 +12,7 @@ use Rattle.ms_program.proofs.Picking.{some_is}
 use Rattle.ms_linking.specs.Groups.{group_of}
 use Rattle.ms_linking.specs.Laws.{go_together}
 use Rattle.ms_typing.specs.Kinds.{Shape}
-use Rattle.ms_typing.specs.Solutions.{IsSolution, LastAreLeast, Takes, shape_at}
+use Rattle.ms_typing.specs.Solutions.{IsSolution, LastAreLeast, Admits, shape_at}
 use Rattle.ms_typing.specs.Typed.{Leads, Typing, Typings}
 use Rattle.ms_typing.specs.Verifier.{Accepted, Cell, Ends, Method, Outcome, Rests, Stops, Turns, Unreached, Verifies, Waiting, entered, lowest, start}
 use Rattle.ms_verify.specs.Methods.{AllAccepted, method_of}
@@ -53,7 +53,7 @@ typings P cells (At class number offset) = typing_of (method_of P class number) 
 
 -- an offset of a method takes what its last shapes take there
 pub leads_there : (P : Program) (cells : ℕ → ℕ → List Cell) (class number offset : ℕ) (method : Method) (shape : Shape) (to : Option Item) → method_of P class number ≡ Some method → to ≡ Some (At class number offset)
-    → Takes (cells class number) offset shape → Leads (typings P cells) method.profile.result to shape
+    → Admits (cells class number) offset shape → Leads (typings P cells) method.profile.result to shape
 leads_there P cells class number offset method shape to is to_is takes = record {
   item = At class number offset;
   is = to_is;

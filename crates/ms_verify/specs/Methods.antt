@@ -19,7 +19,7 @@ use Rattle.ms_typing.specs.Verifier.{Fault, Line, Method, Verifies}
 
 -- METHODS
 
--- the offset of an item
+-- the offset of an item; no view leads to the entry
 abbrev pub offset_in : Item → ℕ
 offset_in Entry = 0
 offset_in (At class method offset) = offset
