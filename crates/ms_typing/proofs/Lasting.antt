@@ -14,7 +14,7 @@ use Rattle.ms_machine.specs.Values.{Value, End, Returned, ReturnedVoid, Threw, I
 use Rattle.ms_machine.specs.Effects.{Test, Compares, Divides, Selects, Indexes}
 use Rattle.ms_machine.specs.Control.{Program, Views, Done, Goes, Ends, Step, Then, Chooses, entry_frame, memory_at_start, start, step}
 use Rattle.ms_machine.specs.Tests.{arm_of, arms_of, both_known, known_test, one_known}
-use Rattle.ms_machine.specs.Segments.{After, Choice, Over, followed, forked, most_instructions, segment_from, segment_within}
+use Rattle.ms_machine.specs.Segments.{After, Choice, Over, advanced, done_within, followed, forked, most_instructions, past, segment_from, segment_within}
 use Rattle.ms_machine.specs.Runs.{IsInputOf, after_arms, done_after, given, given_from, started}
 use Rattle.ms_machine.specs.Laws.{HasArm, mark_of, marked_start, parameters_from, shadow_started}
 use Rattle.ms_typing.specs.Rules.{kind_of}
@@ -81,6 +81,22 @@ module _ {V : Type 0} where
     segment_safe : (done : Done V) → IsSafe P.view T done → IsSafeAfter P.view T (segment_from I P.view done).after
     segment_safe done safe = within_safe most_instructions done safe
 
+    -- STEPS
+
+    advanced_safe : (n : ℕ) → ((done : Done V) → IsSafe P.view T done → IsSafe P.view T (done_within I P.view n done)) → (here : Done V) → IsSafe P.view T here → (taken : Step V) → IsSafeStep P.view T taken
+        → IsSafe P.view T (advanced I here (done_within I P.view n) taken)
+    advanced_safe n all here here_safe (Then done) safe = all done safe
+    advanced_safe n all here here_safe (Chooses test arms) safe = by_known (known_test I test) refl
+      where
+        by_known : (known : Option (Test ℤ)) → known_test I test ≡ known → IsSafe P.view T (past here arms (done_within I P.view n) known)
+        by_known None is = here_safe
+        by_known (Some words) is = all (arms (arm_of words)) (safe (arm_of words) (subst (λ count. arm_of words < count) (known_arms I test words is) (take words)))
+
+    steps_safe : (n : ℕ) (done : Done V) → IsSafe P.view T done → IsSafe P.view T (done_within I P.view n done)
+    steps_safe zero done safe = safe
+    steps_safe (suc n) (Ends end) safe = safe
+    steps_safe (suc n) (Goes state) safe = advanced_safe n (steps_safe n) (Goes state) safe (step I P.view state) (step_safe P.view T verified.items I state safe)
+
     -- ARMS
 
     arm_safe : (after : After V) (arm : ℕ) → IsSafeAfter P.view T after → HasArm after arm → IsSafe P.view T (done_after after arm)
@@ -96,7 +112,7 @@ module _ {V : Type 0} where
     stays_safe : (done : Done V) → IsSafe P.view T done → (arms : List ℕ) → ArePossible I P.view done arms → StaysSafe I P.view T done arms
     stays_safe done safe arms possible =
         let there = arms_safe arms done safe possible in
-        record { done = there; after = segment_safe (after_arms I P.view done arms) there }
+        record { done = there; within = λ n. steps_safe n (after_arms I P.view done arms) there; after = segment_safe (after_arms I P.view done arms) there }
 
     -- THE START
 

@@ -13,7 +13,7 @@ use Rattle.ms_machine.specs.Values as values
 use Rattle.ms_machine.specs.Values.{Value, Throwable, Static, Stuck}
 use Rattle.ms_machine.specs.Control.{Frame, Handler, Program, State, Done, Goes, Ends, Step, Then, Chooses, View, Views, step}
 use Rattle.ms_machine.specs.Tests.{arms_of}
-use Rattle.ms_machine.specs.Segments.{After, Choice, Over, segment_from}
+use Rattle.ms_machine.specs.Segments.{After, Choice, Over, done_within, segment_from}
 use Rattle.ms_machine.specs.Runs.{IsInputOf, after_arms, done_after, started}
 use Rattle.ms_machine.specs.Laws.{HasArm, marked_start, shadow_started}
 use Rattle.ms_typing.specs.declared.kind.PlaceKind.{PlaceKind}
@@ -117,7 +117,7 @@ pub record IsVerified (P : Program) (T : Typings) : Type 0 where
 
 -- VALUES, where so many arrays were made
 
--- what a value is
+-- what a value is; a throwable may be both new, made at any offset, and initialised
 abbrev pub Is : {V : Type 0} → ℕ → Tag → Value V → Type 0
 Is arrays IsInt (values.Int a) = Unit {0}
 Is arrays IsNull values.Null = Unit {0}
@@ -220,9 +220,10 @@ abbrev pub ArePossible : {V : Type 0} → Ints V → Views → Done V → List �
 ArePossible I P done [] = Unit {0}
 ArePossible I P done (arm ∷ arms) = HasArm (segment_from I P done).after arm × ArePossible I P (done_after (segment_from I P done).after arm) arms
 
--- after any such arms a run is safe, and so is what comes after the segment then
+-- after any such arms a run is safe, after any number of instructions then, and so is what comes after the segment
 pub record StaysSafe {V : Type 0} (I : Ints V) (P : Views) (T : Typings) (from : Done V) (arms : List ℕ) : Type 0 where
   pub done : IsSafe P T (after_arms I P from arms)
+  pub within : (n : ℕ) → IsSafe P T (done_within I P n (after_arms I P from arms))
   pub after : IsSafeAfter P T (segment_from I P (after_arms I P from arms)).after
 
 -- A program is never stuck: from the start with the parameters as terms, or with an input, whose words have shadows or

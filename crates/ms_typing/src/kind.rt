@@ -22,7 +22,7 @@ pub enum PlaceKind {
     Unset,
 }
 
-/// What is wrong with a method (JVMS SE 8, sections 4.9.2 and 4.10.2.2).
+/// What is wrong with a method (JVMS SE 8, sections 4.9.1, 4.9.2 and 4.10.2.2).
 #[derive(Clone, Copy, Debug, PartialEq, Eq)]
 pub enum VerifyKind {
     /// Too few operands, or too many places on the operand stack before or after the instruction.

@@ -1,6 +1,7 @@
 pub mod Rows
 pub mod Among
 pub mod Seeing
+pub mod Bodies
 pub mod Solved
 pub mod Beginning
 pub mod Fine

@@ -1,5 +1,5 @@
 -- The types of a program whose methods are accepted, and that each method's are a solution.
-use Rattle.std.proofs.Common.{◌≡◌, ◌<◌, ℕ, zero, suc, List, [], length, replicate, slice_set, IsTrue, Option, Some, None, refl, ap, ap₂, subst, arith}
+use Rattle.std.proofs.Common.{◌≡◌, ◌<◌, ℕ, zero, suc, List, [], length, replicate, slice_set, IsTrue, Option, Some, None, option_map, refl, sym, ap, ap₂, ◌∙◌, subst, arith}
 use Rattle.ms_words.specs.declared.item.Item.{Item}
 use Rattle.ms_words.specs.declared.item.Item.TheVariants.{Entry, At}
 use Rattle.ms_code.specs.declared.instruction.Instr as code
@@ -12,9 +12,10 @@ use Rattle.ms_program.proofs.Picking.{some_is}
 use Rattle.ms_linking.specs.Groups.{group_of}
 use Rattle.ms_linking.specs.Laws.{go_together}
 use Rattle.ms_typing.specs.Kinds.{Shape}
-use Rattle.ms_typing.specs.Solutions.{IsSolution, LastAreLeast, Admits, shape_at}
+use Rattle.ms_typing.specs.Solutions.{Admits, HasOneOutcome, IsSolution, LastAreLeast, shape_at}
 use Rattle.ms_typing.specs.Typed.{Leads, Typing, Typings}
 use Rattle.ms_typing.specs.Verifier.{Accepted, Cell, Ends, Method, Outcome, Rests, Stops, Turns, Unreached, Verifies, Waiting, entered, lowest, start}
+use Rattle.ms_verify.specs.Laws.{AreLastShapes, typed}
 use Rattle.ms_verify.specs.Methods.{AllAccepted, method_of}
 
 -- THE LAST SHAPES OF EACH METHOD
@@ -38,18 +39,27 @@ pub last_shapes : (P : Program) → AllAccepted P → (cells : ℕ → ℕ → L
 last_shapes P all =
     (λ class number. (last_of P all class number (method_of P class number) refl).0, λ class number. (last_of P all class number (method_of P class number) refl).1)
 
+last_is : (cells others : List Cell) → Accepted cells ≡ Accepted others → cells ≡ others
+last_is cells others is = cc
+
 -- TYPES
 
 -- the shape at an offset of a method with the method's result, where there is one
 abbrev pub typing_of : Option Method → Option Shape → Option Typing
 typing_of None shape = None
-typing_of (Some method) None = None
-typing_of (Some method) (Some shape) = Some (record { shape = shape; result = method.profile.result })
+typing_of (Some method) shape = option_map (typed method) shape
 
 -- the types of a program with these last shapes
 abbrev pub typings : Program → (ℕ → ℕ → List Cell) → Typings
 typings P cells Entry = None
 typings P cells (At class number offset) = typing_of (method_of P class number) (shape_at (cells class number) offset)
+
+-- they are the last shapes, since a method has one outcome
+pub are_last_shapes : (P : Program) (cells : ℕ → ℕ → List Cell) → AreLast P cells → ((class number : ℕ) (method : Method) → method_of P class number ≡ Some method → HasOneOutcome method) → AreLastShapes P (typings P cells)
+are_last_shapes P cells last one class number method shapes is accepted offset =
+    let outcome = one class number method is in
+    let same : shapes ≡ cells class number = last_is shapes (cells class number) (outcome.only (Accepted shapes) accepted ∙ sym (outcome.only (Accepted (cells class number)) (last class number method is))) in
+    ap₂ typing_of is (ap (λ c. shape_at c offset) (sym same))
 
 -- an offset of a method takes what its last shapes take there
 pub leads_there : (P : Program) (cells : ℕ → ℕ → List Cell) (class number offset : ℕ) (method : Method) (shape : Shape) (to : Option Item) → method_of P class number ≡ Some method → to ≡ Some (At class number offset)
@@ -69,9 +79,6 @@ none_at_end : (method : Method) (cells : List Cell) (outcome : Outcome) → cell
 none_at_end method cells outcome none (Rests from rests) = ap Accepted none
 none_at_end method cells outcome none (Stops from waiting offset why is fails) = absurd (let e = ap lowest none in cc)
 none_at_end method cells outcome none (Turns from waiting next ended is leaves more) = absurd (let e = ap lowest none in cc)
-
-last_is : (cells others : List Cell) → Accepted cells ≡ Accepted others → cells ≡ others
-last_is cells others is = cc
 
 -- a method with a shape at the end has a code
 has_code : (method : Method) (last : List Cell) → Verifies method (Accepted last) → (offset : ℕ) (shape : Shape) → shape_at last offset ≡ Some shape → 0 < length method.lines

@@ -1,4 +1,4 @@
--- What is said of the methods of a program, one after the other, and why a program isn't verified.
+-- Why a program isn't verified; and, for private functions, what is said of its methods, one after the other.
 use Rattle.std.specs.Prelude.{◌≡◌, ℕ, ◌<◌, Option, Some, MatchOption}
 use Rattle.ms_program.specs.Programs.{Program}
 use Rattle.ms_typing.specs.Solutions.{IsAccepted}

@@ -1,3 +1,4 @@
 pub mod Methods
+pub mod Laws
 pub mod Told
 pub mod Checking

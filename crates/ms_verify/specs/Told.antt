@@ -1,4 +1,4 @@
--- What the code's lists of lines and slots stand for.
+-- For private functions: what the code's lists of lines and slots stand for.
 use Rattle.std.specs.Prelude.{◌≡◌, ℕ, suc, ◌<◌, ◌≤◌, ◌^◌, Bool, true, false, ◌&&◌, List, [], ◌∷◌, map, filter, length, All, Option, Some, None, IfSome, option_map, is_some}
 use Rattle.std.specs.Borrow.{Bor}
 use Rattle.ms_words.specs.declared.thrown.Thrown.{Thrown}

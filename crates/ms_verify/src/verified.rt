@@ -1,4 +1,4 @@
-ghost use Rattle.std.specs.Prelude.{◌≡◌, ◌<◌, IfOk, IfSome, MatchOption, MatchResult, length, slice_get};
+ghost use Rattle.std.specs.Prelude.{◌≡◌, ◌<◌, IfErr, IfOk, IfSome, length, slice_get};
 ghost use Rattle.ms_program.specs.Programs.{IsProgram};
 ghost use Rattle.ms_verify.specs.Methods.{AllAccepted};
 ghost use Rattle.ms_verify.specs.Checking.{HasFault, IsChecked, IsCheckedClass, IsCheckedProgram, IsWhy};
@@ -13,17 +13,17 @@ use std::marker::Model;
 use thiserror::Error;
 
 /// A program of which each method that isn't foreign obeys the type rules (JVMS SE 8, sections 4.9 and
-/// 4.10.2). So no run of it is ever stuck.
+/// 4.10.2), as far as it is reached from its first instruction. So no run of an entry of it is ever stuck.
 #[derive(Drop)]
 pub struct Verified {
     program: Program,
 }
 
 impl Model for Verified {
-    ghost use Rattle.ms_program.specs.Programs.{Program as Classes};
+    ghost use Rattle.ms_program.specs.Programs.{Program as Seen};
     ghost use Rattle.ms_verify.specs.Methods.{AllAccepted};
 
-    ghost Value = { Classes };
+    ghost Value = { Seen };
 
     ghost view = { λ verified. verified.program };
 
@@ -33,8 +33,9 @@ impl Model for Verified {
 /// Why a program isn't verified.
 #[derive(Clone, Copy, Debug, PartialEq, Eq, Drop, Error)]
 pub enum VerifyWhy {
-    /// A rule fails first there: in the first method, by class and file order, that has a fault, at this
-    /// offset of its code.
+    /// A rule fails first there: in the first method that has a fault, by the numbers of classes and of the
+    /// methods in them, which count from 0, foreign ones too; at the instruction of this offset, in bytes, of
+    /// its code. Of two stacks of different depths it is the instruction that both lead to.
     #[error("{kind:?} in class {class}, method {method}, at {offset}")]
     Fault {
         class: u16,
@@ -106,13 +107,16 @@ fn fault_of_program(
 }
 
 impl Verified {
-    /// Verifies each method of a program that isn't foreign. A program that isn't verified is handed back with
-    /// its first fault: that of the first method that has one, by the numbers of classes and methods. It ends on
-    /// every program, since what is known of a method's places only ever grows wider.
+    /// Verifies each method of a program that isn't foreign. A program that isn't verified is handed back, with
+    /// its first fault, or since memory ran out. In a method offset 0 waits first, and the lowest offset that
+    /// waits is always taken next: depth, local, kind, return and the fall off the end are tested in this order,
+    /// and then what the instruction leaves is passed on. It ends on every program, since what is known of a
+    /// method's places only ever grows wider.
     pub fn new(alloc: Global, program: Program) -> Result<Verified, Unverified>
-        ensures { MatchResult result
-            (λ verified. (verified ≡ program) × AllAccepted program)
-            (λ unverified. (unverified.program ≡ program) × IsWhy program unverified.why) }
+        ensures accepted { IfOk result (λ _. AllAccepted program) }
+        ensures kept { IfOk result (λ verified. verified ≡ program) }
+        ensures why { IfErr result (λ unverified. IsWhy program unverified.why) }
+        ensures handed_back { IfErr result (λ unverified. unverified.program ≡ program) }
     {
         let why = match fault_of_program(alloc, &program) {
             Ok(None) => return Ok(Verified { program }),
