@@ -8,7 +8,6 @@
 mod classes;
 #[cfg(test)]
 mod codes;
-#[cfg(test)]
-mod javac;
+pub mod javac;
 #[cfg(test)]
 mod pools;
