@@ -23,7 +23,7 @@ get_stored [] offset old new e = cc
 get_stored (cell ∷ cells) zero old new e = refl
 get_stored (cell ∷ cells) (suc offset) old new e = get_stored cells offset old new e
 
-get_either : (cells : List Cell) (offset place : ℕ) (new : Cell) → (place ≡ offset) ⊎ (slice_get (slice_set cells offset new) place ≡ slice_get cells place)
+pub get_either : (cells : List Cell) (offset place : ℕ) (new : Cell) → (place ≡ offset) ⊎ (slice_get (slice_set cells offset new) place ≡ slice_get cells place)
 get_either [] offset place new = inr refl
 get_either (cell ∷ cells) zero zero new = inl refl
 get_either (cell ∷ cells) zero (suc place) new = inr refl

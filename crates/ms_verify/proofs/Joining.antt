@@ -1,7 +1,11 @@
 -- Two lists of kinds of which the first places are joined.
-use Rattle.std.proofs.Common.{◌≡◌, ℕ, zero, suc, ◌+◌, ◌<◌, ◌≤◌, Bool, true, false, not, ◌&&◌, List, [], ◌∷◌, length, get_or, slice_set, refl, sym, ap, ap₂, ◌∙◌, arith, add-one}
+use Rattle.std.proofs.Common.{◌≡◌, ℕ, zero, suc, ◌+◌, ◌<◌, ◌≤◌, Bool, true, false, cond, not, ◌&&◌, List, [], ◌∷◌, length, get_or, slice_set, refl, sym, ap, ap₂, ◌∙◌, arith, add-one}
+use Rattle.std.proofs.lemmas.Bool.{eq-eqb}
 use Rattle.ms_typing.specs.declared.kind.PlaceKind.{PlaceKind}
-use Rattle.ms_typing.specs.Kinds.{joined_kind, joined_kinds, same_kind, same_kinds}
+use Rattle.ms_words.specs.Throwables.{number_of}
+use Rattle.ms_typing.specs.declared.kind.PlaceKind.TheVariants.{Int, Null, Array, Text, Ref, New, Unset}
+use Rattle.ms_typing.specs.declared.kind.PlaceKind.TheVariants as kinds
+use Rattle.ms_typing.specs.Kinds.{is_reference, joined_kind, joined_kinds, joined_references, same_kind, same_kinds}
 
 -- so many first places are joined
 abbrev pub joined_first : ℕ → List PlaceKind → List PlaceKind → List PlaceKind
@@ -14,6 +18,26 @@ abbrev pub same_first : ℕ → List PlaceKind → List PlaceKind → Bool
 same_first zero kinds others = true
 same_first (suc n) (kind ∷ kinds) (other ∷ others) = same_kind (joined_kind kind other) kind && same_first n kinds others
 same_first n kinds others = true
+
+-- ONE PLACE
+
+-- a kind is equal to itself
+self_same : (kind : PlaceKind) → same_kind kind kind ≡ true
+self_same Int = refl
+self_same Null = refl
+self_same Array = refl
+self_same Text = refl
+self_same (kinds.Thrown class) = eq-eqb (number_of class) (number_of class) refl
+self_same Ref = refl
+self_same (New offset class) = ap₂ (λ a b. a && b) (eq-eqb offset offset refl) (eq-eqb (number_of class) (number_of class) refl)
+self_same Unset = refl
+
+-- one that is equal stays, and that doesn't change it
+pub same_joined : (kind other : PlaceKind) → same_kind kind other ≡ true → kind ≡ joined_kind kind other
+same_joined kind other e = sym (ap (λ b. cond b kind (cond (is_reference kind && is_reference other) (joined_references kind other) Unset)) e)
+
+pub same_stays : (kind other : PlaceKind) → same_kind kind other ≡ true → false ≡ not (same_kind (joined_kind kind other) kind)
+same_stays kind other e = ap not (sym (ap (λ k. same_kind k kind) (sym (same_joined kind other e)) ∙ self_same kind))
 
 -- ONE PLACE MORE
 
@@ -56,21 +80,23 @@ joins_next n now kinds others d kind l e f g =
     ap₂ (λ x y. slice_set x n y) f (g ∙ ap (λ x. joined_kind x (get_or others n d)) (ap (λ x. get_or x n d) f ∙ next_kept n kinds others d))
     ∙ (next_joined n kinds others d l e ∙ ap (λ x. joined_first x kinds others) (sym (add-one n)))
 
-pub same_next : (n : ℕ) (now kinds others : List PlaceKind) (d kind : PlaceKind) (same : Bool) → n < length kinds → length kinds ≡ length others → now ≡ joined_first n kinds others
-    → kind ≡ joined_kind (get_or now n d) (get_or others n d) → same ≡ same_kind kind (get_or now n d) → same_first (n + 1) kinds others ≡ (same_first n kinds others && same)
-same_next n now kinds others d kind same l e f g h =
+pub same_next : (n : ℕ) (now kinds others : List PlaceKind) (d : PlaceKind) → n < length kinds → length kinds ≡ length others → now ≡ joined_first n kinds others
+    → same_first (n + 1) kinds others ≡ (same_first n kinds others && same_kind (joined_kind (get_or now n d) (get_or others n d)) (get_or now n d))
+same_next n now kinds others d l e f =
     let kept : get_or now n d ≡ get_or kinds n d = ap (λ x. get_or x n d) f ∙ next_kept n kinds others d in
     ap (λ x. same_first x kinds others) (add-one n)
-    ∙ (next_same n kinds others d l e ∙ ap (λ x. same_first n kinds others && x) (sym (h ∙ ap₂ same_kind (g ∙ ap (λ x. joined_kind x (get_or others n d)) kept) kept)))
+    ∙ (next_same n kinds others d l e ∙ ap (λ x. same_first n kinds others && same_kind (joined_kind x (get_or others n d)) x) (sym kept))
 
 -- what is changed by a place that changes, and by one that doesn't
-pub changes : (before same after : Bool) → after ≡ (before && same) → same ≡ false → true ≡ not after
-changes true same after e f = ap not (sym (e ∙ f))
-changes false same after e f = ap not (sym e)
+pub changes : (before same after one : Bool) → after ≡ (before && same) → one ≡ not same → one ≡ true → true ≡ not after
+changes before true after one e f g = absurd (let h = sym g ∙ f in cc)
+changes true false after one e f g = ap not (sym e)
+changes false false after one e f g = ap not (sym e)
 
-pub stays : (before same after changed : Bool) → after ≡ (before && same) → same ≡ true → changed ≡ not before → changed ≡ not after
-stays true same after changed e f g = g ∙ ap not (sym (e ∙ f))
-stays false same after changed e f g = g ∙ ap not (sym e)
+pub stays : (before same after changed one : Bool) → after ≡ (before && same) → one ≡ not same → one ≡ false → changed ≡ not before → changed ≡ not after
+stays before false after changed one e f g h = absurd (let i = sym g ∙ f in cc)
+stays true true after changed one e f g h = h ∙ ap not (sym e)
+stays false true after changed one e f g h = h ∙ ap not (sym e)
 
 -- ALL PLACES
 

@@ -1,5 +1,5 @@
 -- For private functions: what the code's lists of lines and slots stand for.
-use Rattle.std.specs.Prelude.{◌≡◌, ℕ, suc, ◌<◌, ◌≤◌, ◌^◌, Bool, true, false, ◌&&◌, List, [], ◌∷◌, map, filter, length, All, Option, Some, None, IfSome, option_map, is_some}
+use Rattle.std.specs.Prelude.{◌≡◌, ℕ, suc, ◌<◌, ◌≤◌, ◌^◌, Bool, true, false, ◌&&◌, List, [], ◌∷◌, map, filter, length, slice_get, All, Option, Some, None, IfSome, option_map, is_some}
 use Rattle.std.specs.Borrow.{Bor}
 use Rattle.ms_words.specs.declared.thrown.Thrown.{Thrown}
 use Rattle.ms_code.specs.declared.decoded.Handler.{Handler}
@@ -126,10 +126,19 @@ abbrev pub outcome_of : Option Fault → List Cell → Outcome
 outcome_of None cells = Accepted cells
 outcome_of (Some fault) cells = typing.Fault fault.offset fault.kind
 
--- the instruction at an offset leads to no offset below this one, which is none above it
-pub record LeadsFrom (method : Method) (offset low : ℕ) : Type 0 where
-  pub own : low ≤ offset
-  pub led : (line : typing.Line) → line_at method offset ≡ Some line → (shape : Shape) → All (λ (passed : ℕ × Shape). low ≤ passed.0) (passes offset line shape)
+-- whether an offset doesn't wait
+abbrev pub rests : Option Cell → Bool
+rests (Some (Waiting shape)) = false
+rests cell = true
+
+-- an offset doesn't wait, if it is below this one
+abbrev pub RestsBelow : List Slot → (low offset : ℕ) → Type 0
+RestsBelow slots low offset = offset < low → rests (slice_get (cells_of slots) offset) ≡ true
+
+-- of the offsets to which the instruction at an offset leads none below this one waits, which is the next one at most
+pub record IsLow (method : Method) (slots : List Slot) (offset low : ℕ) : Type 0 where
+  pub own : low ≤ suc offset
+  pub led : (line : typing.Line) → line_at method offset ≡ Some line → (shape : Shape) → All (λ (passed : ℕ × Shape). RestsBelow slots low passed.0) (passes offset line shape)
 
 -- what comes of a method is this fault, or none
 abbrev pub HasOutcome : Method → Option Fault → Type 0

@@ -85,6 +85,21 @@ fn joined_kind(kind: PlaceKind, other: PlaceKind) -> PlaceKind
     PlaceKind::Unset
 }
 
+/// Joins a kind to the one of a place, and answers whether that changed it. Mostly the two are equal.
+#[tactic(auto, using(crate::proofs::Joining::same_joined, crate::proofs::Joining::same_stays))]
+fn join_place(kind: &mut PlaceKind, other: PlaceKind) -> bool
+    ensures joined { kind.new ≡ rules.joined_kind kind.old other }
+    ensures changed { result ≡ not (rules.same_kind (rules.joined_kind kind.old other) kind.old) }
+{
+    if same_kind(*kind, other) {
+        return false;
+    }
+    let joined = joined_kind(*kind, other);
+    let changed = !same_kind(joined, *kind);
+    *kind = joined;
+    changed
+}
+
 /// Joins other kinds to these, place by place, and answers whether that changed one.
 pub(crate) fn join_into(kinds: &mut [PlaceKind], others: &[PlaceKind]) -> bool
     requires { length kinds.old ≡ length others.now }
@@ -93,11 +108,9 @@ pub(crate) fn join_into(kinds: &mut [PlaceKind], others: &[PlaceKind]) -> bool
 {
     let mut changed = false;
     for i in 0..kinds.len() {
-        let kind = joined_kind(kinds[i], others[i]);
-        if !same_kind(kind, kinds[i]) {
+        if join_place(&mut kinds[i], others[i]) {
             changed = true;
         }
-        kinds[i] = kind;
     }
     changed
 }

@@ -1,9 +1,10 @@
-ghost use Rattle.std.specs.Prelude.{◌≡◌, ◌<◌, ◌≤◌, All, IfOk, IfSome, MatchOption, None, Some, is_none, length, map, slice_set, take, ℕ};
+ghost use Rattle.std.specs.Prelude.{◌≡◌, ◌<◌, ◌≤◌, All, IfOk, IfSome, MatchOption, None, Some, is_none, length, map, slice_set, take, true, ℕ};
+ghost use Rattle.ms_program.specs.Views as views;
 ghost use Rattle.ms_linking.specs.Told.{told};
 ghost use Rattle.ms_typing.specs.Kinds as rules;
 ghost use Rattle.ms_typing.specs.Rules as typing;
 ghost use Rattle.ms_typing.specs.Verifier.{filled, Settled, Verifies, line_at, lowest, start, turn};
-ghost use Rattle.ms_verify.specs.Told.{AllHave, HasOutcome, LeadsFrom, IsLowest, IsWhole, IsWholeCode, cells_of, handlers_at, line_lent, method_told, outcome_of, turned};
+ghost use Rattle.ms_verify.specs.Told.{AllHave, HasOutcome, IsLow, IsLowest, RestsBelow, IsWhole, IsWholeCode, cells_of, line_lent, method_told, outcome_of, turned};
 
 use crate::line::{Code, Fault, Line};
 use crate::passing::{covers, pass_each, pass_handlers};
@@ -38,30 +39,56 @@ fn settle_at(alloc: Global, slots: &mut [Slot], at: u16) -> Result<Shape, AllocE
     slots[at as usize].settle(alloc)
 }
 
-/// The lowest of this offset and of those where handlers begin that cover it.
-fn lowest_caught(handlers: &[Handler], at: u16, low: u16) -> u16
+/// An offset, if it waits and is below another, and else that one.
+#[tactic(auto, using(crate::proofs::Leading::one_rests))]
+fn lower(slots: &[Slot], offset: u16, low: u16) -> u16
+    requires { offset < length slots.now }
     ensures low { result ≤ low }
-    ensures handlers { All (λ handler. result ≤ handler.0) (handlers_at handlers.now at) }
+    ensures rests { RestsBelow slots.now result offset }
+{
+    if offset >= low {
+        return low;
+    }
+    if slots[offset as usize].is_waiting() {
+        return offset;
+    }
+    low
+}
+
+/// The lowest of these offsets that waits, if one is below another, and else that one.
+fn lowest_of(slots: &[Slot], offsets: &[u16], low: u16) -> u16
+    requires { All (λ offset. offset < length slots.now) offsets.now }
+    ensures low { result ≤ low }
+    ensures rest { All (RestsBelow slots.now result) offsets.now }
 {
     let mut lowest = low;
-    for handler in handlers {
-        if covers(handler, at) && handler.target < lowest {
-            lowest = handler.target;
-        }
+    for offset in offsets {
+        lowest = lower(slots, *offset, lowest);
     }
     lowest
 }
 
-/// The lowest of these offsets and another.
-fn lowest_of(offsets: &[u16], at: u16) -> u16
-    ensures at { result ≤ at }
-    ensures offsets { All (λ offset. result ≤ offset) offsets.now }
+/// The same of the offset where a handler begins, if it covers an offset.
+fn lower_caught(slots: &[Slot], handler: &Handler, at: u16, low: u16) -> u16
+    requires { handler.now.target < length slots.now }
+    ensures low { result ≤ low }
+    ensures rests { views.covers at handler.now ≡ true → RestsBelow slots.now result handler.now.target }
 {
-    let mut lowest = at;
-    for offset in offsets {
-        if *offset < lowest {
-            lowest = *offset;
-        }
+    if covers(handler, at) {
+        return lower(slots, handler.target, low);
+    }
+    low
+}
+
+/// The same of the offsets where handlers begin that cover an offset.
+fn lowest_caught(slots: &[Slot], handlers: &[Handler], at: u16, low: u16) -> u16
+    requires { All (λ handler. handler.target < length slots.now) handlers.now }
+    ensures low { result ≤ low }
+    ensures rest { All (λ handler. views.covers at handler ≡ true → RestsBelow slots.now result handler.target) handlers.now }
+{
+    let mut lowest = low;
+    for handler in handlers {
+        lowest = lower_caught(slots, handler, at, lowest);
     }
     lowest
 }
@@ -77,14 +104,18 @@ impl<'a> Code<'a> {
         self.lines[at as usize].as_ref()
     }
 
-    /// An offset from which on all lie that the instruction at an offset may lead to, and that offset.
-    fn lowest_led(&self, at: u16) -> u16
+    /// The lowest offset that waits of those to which the instruction at an offset leads, or the next one.
+    fn lowest_led(&self, slots: &[Slot], at: u16) -> u16
         requires within { at < length self.now.lines.items }
         requires whole { IsWholeCode self.now }
-        ensures { LeadsFrom (method_told self.now) at result }
+        requires long { length slots.now ≡ length self.now.lines.items }
+        ensures { IsLow (method_told self.now) slots.now at result }
     {
         match self.line(at) {
-            Some(line) => lowest_caught(self.handlers, at, lowest_of(&line.successors, at)),
+            Some(line) => {
+                let low = lowest_of(slots, &line.successors, at + 1);
+                lowest_caught(slots, self.handlers, at, low)
+            }
             None => at,
         }
     }
@@ -185,7 +216,7 @@ fn run(alloc: Global, code: &Code<'_>, slots: &mut [Slot]) -> Result<Option<Faul
         if let Some(fault) = take_turn(alloc, code, slots, at)? {
             return Ok(Some(fault));
         }
-        low = code.lowest_led(at);
+        low = code.lowest_led(slots, at);
     }
     Ok(None)
 }

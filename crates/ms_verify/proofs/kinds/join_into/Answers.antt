@@ -1,16 +1,16 @@
 use Rattle.std.proofs.Common.{◌∙◌}
 use Rattle.ms_verify.proofs.Joining.{all_changed, all_joined, changes, joins_next, same_next, stays}
 use Rattle.ms_verify.proofs.kinds.join_into.Goals as goal
-use Rattle.ms_verify.proofs.kinds.join_into.Goals.{then-not-same_kind, else-not-same_kind}
+use Rattle.ms_verify.proofs.kinds.join_into.Goals.{then-join_place, else-join_place}
 
 pub loop-i-preserved : goal.loop-i-preserved
 loop-i-preserved c =
-    let step = same_next c.loop-i.i _ _ _ _ _ c.same_kind.result c.loop-i-test.true c.requires c.loop-i.invariant.kinds c.joined_kind-kind.ensures c.same_kind.ensures in
+    let step = same_next c.loop-i.i _ _ _ _ c.loop-i-test.true c.requires c.loop-i.invariant.kinds in
     record {
-      kinds = joins_next c.loop-i.i _ _ _ _ _ c.loop-i-test.true c.requires c.loop-i.invariant.kinds c.joined_kind-kind.ensures;
-      changed = elim c.if-not-same_kind.branch [
-        | then-not-same_kind w ↦ w.changed-is ∙ changes _ c.same_kind.result _ step w.if-not-same_kind.true
-        | else-not-same_kind w ↦ w.changed-is ∙ stays _ c.same_kind.result _ _ step w.if-not-same_kind.false c.loop-i.invariant.changed
+      kinds = joins_next c.loop-i.i _ _ _ _ _ c.loop-i-test.true c.requires c.loop-i.invariant.kinds c.join_place.ensures.joined;
+      changed = elim c.if-join_place.branch [
+        | then-join_place w ↦ w.changed-is ∙ changes _ _ _ c.join_place.result step c.join_place.ensures.changed w.if-join_place.true
+        | else-join_place w ↦ w.changed-is ∙ stays _ _ _ _ c.join_place.result step c.join_place.ensures.changed w.if-join_place.false c.loop-i.invariant.changed
       ];
     }
 
