@@ -1,5 +1,5 @@
 -- Items, the places of a program, and lists in which each stands once.
-use Rattle.std.specs.Prelude.{Bool, true, false, ◌&&◌, ◌==◌, if◌then◌else◌, List, [], ◌∷◌}
+use Rattle.std.specs.Prelude.{◌≢◌, Bool, true, false, ◌&&◌, ◌==◌, if◌then◌else◌, List, [], ◌∷◌, AllPairs}
 use Rattle.ms_words.specs.declared.item.Item.{Item}
 use Rattle.ms_words.specs.declared.item.Item.TheVariants.{Entry, At}
 
@@ -19,3 +19,7 @@ without item (first ∷ items) = if same_item item first then without item items
 abbrev pub firsts : List Item → List Item
 firsts [] = []
 firsts (item ∷ items) = item ∷ without item (firsts items)
+
+-- no item stands twice in the list
+abbrev pub AreDistinct : List Item → Type 0
+AreDistinct items = AllPairs (λ (earlier later : Item). earlier ≢ later) items
