@@ -1,4 +1,6 @@
 pub mod Lines
 pub mod Numerals
 pub mod Commands
+pub mod Names
+pub mod Endings
 pub mod Texts

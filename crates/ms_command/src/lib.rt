@@ -5,11 +5,14 @@
 #![tactic(auto)]
 
 mod command;
+mod ending;
 mod number;
+mod printing;
 mod reply;
 mod tokens;
 mod words;
 
 pub use command::{Command, CommandRefusal, read_command};
-pub use reply::{Reply, end_text, write_reply};
+pub use ending::end_text;
+pub use reply::{Reply, write_reply};
 pub use words::Words;

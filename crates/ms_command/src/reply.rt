@@ -1,9 +1,10 @@
-ghost use Rattle.std.specs.Prelude.{◌≡◌, ◌<◌, ◌++◌, IfOk, OnOk};
+ghost use Rattle.std.specs.Prelude.{◌≡◌, ◌++◌, IfOk, OnOk};
 ghost use Rattle.std.specs.Fmt.{decimal};
-ghost use Rattle.ms_command.specs.Texts as texts;
-ghost use Rattle.ms_command.specs.Texts.{hex_digit, is_printed, line_end, printed_byte, printed_name, reply_text};
+ghost use Rattle.ms_command.specs.Names.{printed_name};
+ghost use Rattle.ms_command.specs.Texts.{line_end, reply_text};
 
-use ms_words::{Ended, Name, NoMemory, PathEnd};
+use crate::printing::printed;
+use ms_words::{Name, NoMemory};
 use std::alloc::Global;
 
 /// A reply to a command.
@@ -65,6 +66,14 @@ pub enum Reply {
         kind: Name,
         at: u64,
     },
+    /// `refused 6 Verify KIND NAMEDESC OFFSET`: the type rules fail. This is the first place where they do: the
+    /// kind of the fault, which is printed as it is; the name of the method and its descriptor, one behind
+    /// the other, as they are; and the offset of the instruction in its code.
+    VerifyFault {
+        kind: Name,
+        method: Name,
+        offset: u16,
+    },
     /// `refused 7 Known CLASS`: the program has a class of this name.
     Known {
         class: Name,
@@ -80,26 +89,16 @@ pub enum Reply {
     EntryMissing,
     /// `refused 13 Range`: a form of a command fits the line, and a number is outside its range.
     Range,
+    /// `refused 16 Words`: the words aren't as many as the method has parameters, or one isn't of its
+    /// parameter's kind.
+    Words,
     /// `refused 90 NotBuilt`: the file, which has no fault, the method or the words are beyond what is built
     /// so far, or a class of another name is present.
     NotBuilt,
 }
 
-/// How the end of a path is printed: `returns N`, or `cut`.
-pub fn end_text(alloc: Global, end: &PathEnd) -> Result<Name, NoMemory>
-    ensures { IfOk result (λ text. text ≡ texts.end_text end.now) }
-{
-    match end {
-        PathEnd::Ended(Ended::Returned(word)) => {
-            let text = format!(in alloc; "returns {word}")?;
-            Name::of(alloc, text.as_bytes())
-        }
-        PathEnd::Cut => Name::of(alloc, b"cut"),
-    }
-}
-
-/// The text of a reply: one line, ended by a line feed. In the name of a file, of a class and of the
-/// entry each byte outside 0x21 to 0x7E, and the backslash, is written as `\x` and two small hexadecimal
+/// The text of a reply: one line, ended by a line feed. In the name of a file, of a class, of a
+/// method and of the entry each byte outside 0x21 to 0x7E, and the backslash, is written as `\x` and two small hexadecimal
 /// digits. Numbers are decimal, without leading zeros.
 pub fn write_reply(alloc: Global, reply: &Reply) -> Result<Vec<u8>, NoMemory>
     ensures { IfOk result (λ text. text.items ≡ reply_text reply.now) }
@@ -122,11 +121,17 @@ pub fn write_reply(alloc: Global, reply: &Reply) -> Result<Vec<u8>, NoMemory>
         Reply::Absent { file } => named(alloc, b"refused 3 Absent ", file.bytes()),
         Reply::TooLong { file } => named(alloc, b"refused 4 TooLong ", file.bytes()),
         Reply::ClassFault { kind, at } => class_fault(alloc, kind.bytes(), *at),
+        Reply::VerifyFault {
+            kind,
+            method,
+            offset,
+        } => verify_fault(alloc, kind.bytes(), method.bytes(), *offset),
         Reply::Known { class } => named(alloc, b"refused 7 Known ", class.bytes()),
         Reply::Unknown { class } => named(alloc, b"refused 8 Unknown ", class.bytes()),
         Reply::NoEntry => line(alloc, b"refused 10 NoEntry", b""),
         Reply::EntryMissing => line(alloc, b"refused 11 EntryMissing", b""),
         Reply::Range => line(alloc, b"refused 13 Range", b""),
+        Reply::Words => line(alloc, b"refused 16 Words", b""),
         Reply::NotBuilt => line(alloc, b"refused 90 NotBuilt", b""),
     }
 }
@@ -156,6 +161,19 @@ fn class_fault(alloc: Global, kind: &[u8], at: u64) -> Result<Vec<u8>, NoMemory>
     text.extend_from_slice(kind)?;
     text.push(b' ')?;
     push_number(alloc, &mut text, at)?;
+    with_line_end(text)
+}
+
+fn verify_fault(alloc: Global, kind: &[u8], method: &[u8], offset: u16) -> Result<Vec<u8>, NoMemory>
+    ensures { IfOk result (λ text. text.items ≡ reply_text (Reply.VerifyFault kind.now method.now offset)) }
+{
+    let mut text = Vec::from_slice(alloc, b"refused 6 Verify ")?;
+    text.extend_from_slice(kind)?;
+    text.push(b' ')?;
+    let method = printed(alloc, method)?;
+    text.extend_from_slice(method.as_slice())?;
+    text.push(b' ')?;
+    push_number(alloc, &mut text, u64::from(offset))?;
     with_line_end(text)
 }
 
@@ -222,45 +240,4 @@ fn line(alloc: Global, first: &[u8], rest: &[u8]) -> Result<Vec<u8>, NoMemory>
     let mut text = Vec::from_slice(alloc, first)?;
     text.extend_from_slice(rest)?;
     with_line_end(text)
-}
-
-/// A name as it is printed.
-fn printed(alloc: Global, name: &[u8]) -> Result<Vec<u8>, NoMemory>
-    ensures { IfOk result (λ text. text.items ≡ printed_name name.now) }
-{
-    let mut text = Vec::new(alloc);
-    for byte in name {
-        push_printed(&mut text, *byte)?;
-    }
-    Ok(text)
-}
-
-/// Adds a byte of a name as it is printed.
-fn push_printed(text: &mut Vec<u8>, byte: u8) -> Result<(), NoMemory>
-    ensures { OnOk result (text.new.items ≡ text.old.items ++ printed_byte byte) }
-{
-    if is_printed_byte(byte) {
-        text.push(byte)?;
-    } else {
-        text.extend_from_slice(&[b'\\', b'x', hexadecimal(byte / 16), hexadecimal(byte % 16)])?;
-    }
-    Ok(())
-}
-
-fn is_printed_byte(byte: u8) -> bool
-    ensures { result ≡ is_printed byte }
-{
-    (0x21..=0x7e).contains(&byte) && byte != b'\\'
-}
-
-/// The digit of a number below 16.
-fn hexadecimal(digit: u8) -> u8
-    requires { digit < 16 }
-    ensures { result ≡ hex_digit digit }
-{
-    if digit < 10 {
-        b'0' + digit
-    } else {
-        b'a' + (digit - 10)
-    }
 }

@@ -11,14 +11,14 @@ use Rattle.ms_classfile.specs.ThinFile.{IsThinMethod, Method}
 use Rattle.ms_machine.specs.Ints.{Ints, ints}
 use Rattle.ms_machine.specs.Ints as int
 use Rattle.ms_machine.specs.Instructions.{Comparison}
-use Rattle.ms_machine.specs.Values.{Int, End, Returned, ReturnedVoid, Threw, InitFailed, Missing, Runaway, Deep, SymLength, HeapFull, Stuck}
+use Rattle.ms_machine.specs.Values.{Int, Returned, ReturnedVoid, Threw, InitFailed, Missing, Runaway, Deep, SymLength, HeapFull, Stuck}
 use Rattle.ms_machine.specs.Effects.{Does, Doing, Asks, Moves, Returns, Next, Target, Test, Compares, by_arm, effect}
 use Rattle.ms_machine.specs.Control.{Done, Goes, Ends, memory_at_start, perform}
 use Rattle.ms_machine.specs.Tests.{arm_of, arms_of, known_test}
 use Rattle.ms_machine.specs.Segments.{After, Choice, Over, forked, most_instructions, segment_from, segment_within}
 use Rattle.ms_machine.specs.Runs.{RunEnd, Ended, Cut, after_arms, done_after, end_from, end_of, given, given_from, segment_after, word_arm}
 use Rattle.ms_machine.specs.Laws.{IsWhole}
-use Rattle.ms_jvm.specs.Ends.{HasTwoArms, path_end_of}
+use Rattle.ms_jvm.specs.Ends.{HasTwoArms, ReturnsOrIsCut, ReturnsWord, path_end_of}
 use Rattle.ms_jvm.specs.Programs.{code_from, comparison_of, distance_of, instr_of, program_of, views_of}
 use Rattle.ms_jvm.specs.Turns.{here_with, locals_of}
 use Rattle.ms_jvm.proofs.Codes.{IsWalked, arm_walks, behind, branch_empties, from_zero, placed, some_walked}
@@ -77,22 +77,10 @@ record Stands {V : Type 0} (method : Method) (parameters : List V) (most : ℕ) 
   pub walks : IsWalked (length parameters) method.max_stack (length stack) rest
   pub short : length rest ≤ most
 
-abbrev Gave : {V : Type 0} → End V → Type 0
-Gave (Returned a) = Unit {0}
-Gave ReturnedVoid = ⊥
-Gave (Threw class) = ⊥
-Gave (InitFailed class) = ⊥
-Gave (Missing name) = ⊥
-Gave Runaway = ⊥
-Gave Deep = ⊥
-Gave SymLength = ⊥
-Gave HeapFull = ⊥
-Gave Stuck = ⊥
-
 -- a choice of two arms, each of which stands in the code, or the end of a run that returned an int
 abbrev Comes : {V : Type 0} → Method → List V → ℕ → After V → Type 0
 Comes method parameters most (Choice test arms) = (arms_of test ≡ 2) × ((arm : ℕ) → Stands method parameters most (arms arm))
-Comes method parameters most (Over end) = Gave end
+Comes method parameters most (Over end) = ReturnsWord end
 
 arm_stands : {V : Type 0} (method : Method) (parameters : List V) (offset far : ℕ) (stack left : List V) (branch : Instruction) (rest : List Instruction) → code_from offset method.instructions ≡ branch ∷ rest
     → IsWalked (length parameters) method.max_stack (length stack) (branch ∷ rest) → distance_of branch ≡ Some far → length left ≡ depth_after (length stack) branch
@@ -169,27 +157,23 @@ comes I method parameters (suc n) offset stack (first ∷ more) here walks short
 
 -- ---- HOW A RUN ENDS
 
-abbrev EndsSo : {V : Type 0} → RunEnd V → Type 0
-EndsSo (Ended end) = Gave end
-EndsSo Cut = Unit {0}
-
 ends_after : {V : Type 0} (I : Ints V) (method : Method) (parameters : List V) (decide : Test V → ℕ) (depth : ℕ) (after : After V) → Comes method parameters most_instructions after
-    → EndsSo (end_after I (views_of method.instructions) decide depth after)
+    → ReturnsOrIsCut (end_after I (views_of method.instructions) decide depth after)
 ends_after I method parameters decide zero (Choice test arms) c = tt
 ends_after I method parameters decide zero (Over end) c = c
 ends_after I method parameters decide (suc depth) (Choice test arms) c =
-    subst EndsSo (sym (end_is I (views_of method.instructions) decide depth (arms (decide test))))
+    subst ReturnsOrIsCut (sym (end_is I (views_of method.instructions) decide depth (arms (decide test))))
     (ends_after I method parameters decide depth (segment_from I (views_of method.instructions) (arms (decide test))).after
     (stood I method parameters most_instructions (arms (decide test)) (c.1 (decide test)) (comes I method parameters most_instructions)))
 ends_after I method parameters decide (suc depth) (Over end) c = c
 
 ends : {V : Type 0} (I : Ints V) (method : Method) (parameters : List V) (decide : Test V → ℕ) (depth : ℕ) (done : Done V) → Stands method parameters most_instructions done
-    → EndsSo (end_from I (views_of method.instructions) decide depth done)
+    → ReturnsOrIsCut (end_from I (views_of method.instructions) decide depth done)
 ends I method parameters decide depth done stands =
-    subst EndsSo (sym (end_is I (views_of method.instructions) decide depth done))
+    subst ReturnsOrIsCut (sym (end_is I (views_of method.instructions) decide depth done))
     (ends_after I method parameters decide depth (segment_from I (views_of method.instructions) done).after (stood I method parameters most_instructions done stands (comes I method parameters most_instructions)))
 
-some_end : (end : RunEnd int.Int) → EndsSo end → IsSome (path_end_of end)
+some_end : (end : RunEnd int.Int) → ReturnsOrIsCut end → IsSome (path_end_of end)
 some_end (Ended (Returned a)) so = refl
 some_end (Ended ReturnedVoid) so = absurd so
 some_end (Ended (Threw class)) so = absurd so
@@ -221,9 +205,12 @@ start_stands method x thin kinds whole =
       short = omega (arith, thin.short);
     }
 
+pub method_returns : (method : Method) (x : Words) (depth : ℕ) → IsThinMethod method → x.kinds ≡ method.kinds → IsWhole x → ReturnsOrIsCut (end_of (program_of method) x depth)
+method_returns method x depth thin kinds whole =
+    ends ints method (given x) word_arm depth (standing (given x) 0 []) (start_stands method x thin kinds whole)
+
 pub method_ends : (method : Method) (x : Words) (depth : ℕ) → IsThinMethod method → x.kinds ≡ method.kinds → IsWhole x → IsSome (path_end_of (end_of (program_of method) x depth))
-method_ends method x depth thin kinds whole =
-    some_end (end_of (program_of method) x depth) (ends ints method (given x) word_arm depth (standing (given x) 0 []) (start_stands method x thin kinds whole))
+method_ends method x depth thin kinds whole = some_end (end_of (program_of method) x depth) (method_returns method x depth thin kinds whole)
 
 -- ---- AFTER ANY ARMS
 

@@ -27,39 +27,39 @@ part_after a b c x text rest grown part =
     let whole : take (length x + k.0) (x ++ (text ++ rest)) ≡ x ++ take part.0 text = take-append-add x (text ++ rest) k.0 ∙ ap (λ l. x ++ l) (sym k.1) in
     (length x + k.0, subst (Appends a c) (sym whole) (Appends-trans a b c x (take part.0 text) grown part.1))
 
-rows_to : (rows : List PathRow) (i : ℕ) → rows_text rows ≡ rows_text (take i rows) ++ rows_text (drop i rows)
-rows_to rows i = ap rows_text (sym (take-append-drop i rows)) ∙ flat_map-append row_text (take i rows) (drop i rows)
+rows_to : (names : List (List ℕ)) (rows : List PathRow) (i : ℕ) → rows_text names rows ≡ rows_text names (take i rows) ++ rows_text names (drop i rows)
+rows_to names rows i = ap (rows_text names) (sym (take-append-drop i rows)) ∙ flat_map-append (row_text names) (take i rows) (drop i rows)
 
-rows_at : (rows : List PathRow) (i : ℕ) (row : PathRow) → i < length rows → row ≡ get_or rows i row
-    → rows_text rows ≡ rows_text (take i rows) ++ (row_text row ++ rows_text (drop (suc i) rows))
-rows_at rows i row within is =
-    ap rows_text (split_at rows i row within) ∙ flat_map-append row_text (take i rows) (get_or rows i row ∷ drop (suc i) rows)
-    ∙ ap (λ at. rows_text (take i rows) ++ (row_text at ++ rows_text (drop (suc i) rows))) (sym is)
+rows_at : (names : List (List ℕ)) (rows : List PathRow) (i : ℕ) (row : PathRow) → i < length rows → row ≡ get_or rows i row
+    → rows_text names rows ≡ rows_text names (take i rows) ++ (row_text names row ++ rows_text names (drop (suc i) rows))
+rows_at names rows i row within is =
+    ap (rows_text names) (split_at rows i row within) ∙ flat_map-append (row_text names) (take i rows) (get_or rows i row ∷ drop (suc i) rows)
+    ∙ ap (λ at. rows_text names (take i rows) ++ (row_text names at ++ rows_text names (drop (suc i) rows))) (sym is)
 
-rows_more : (rows : List PathRow) (i : ℕ) (row : PathRow) → i < length rows → row ≡ get_or rows i row
-    → rows_text (take (i + 1) rows) ≡ rows_text (take i rows) ++ row_text row
-rows_more rows i row within is =
-    ap rows_text (take_more rows i row within) ∙ flat_map-append row_text (take i rows) (get_or rows i row ∷ [])
-    ∙ ap (λ l. rows_text (take i rows) ++ l) (append-nil (row_text (get_or rows i row)))
-    ∙ ap (λ at. rows_text (take i rows) ++ row_text at) (sym is)
+rows_more : (names : List (List ℕ)) (rows : List PathRow) (i : ℕ) (row : PathRow) → i < length rows → row ≡ get_or rows i row
+    → rows_text names (take (i + 1) rows) ≡ rows_text names (take i rows) ++ row_text names row
+rows_more names rows i row within is =
+    ap (rows_text names) (take_more rows i row within) ∙ flat_map-append (row_text names) (take i rows) (get_or rows i row ∷ [])
+    ∙ ap (λ l. rows_text names (take i rows) ++ l) (append-nil (row_text names (get_or rows i row)))
+    ∙ ap (λ at. rows_text names (take i rows) ++ row_text names at) (sym is)
 
 -- a sink that has taken the rows so far has taken first bytes of all
-pub rows_stopped : (a b : Option (List ℕ)) (rows : List PathRow) (i : ℕ) → Appends a b (rows_text (take i rows)) → TakesPart a b (rows_text rows)
-rows_stopped a b rows i grown = subst (TakesPart a b) (sym (rows_to rows i)) (part_grown a b (rows_text (take i rows)) (rows_text (drop i rows)) grown)
+pub rows_stopped : (names : List (List ℕ)) (a b : Option (List ℕ)) (rows : List PathRow) (i : ℕ) → Appends a b (rows_text names (take i rows)) → TakesPart a b (rows_text names rows)
+rows_stopped names a b rows i grown = subst (TakesPart a b) (sym (rows_to names rows i)) (part_grown a b (rows_text names (take i rows)) (rows_text names (drop i rows)) grown)
 
 -- and so has one that then took some first bytes of the next
-pub row_broken : (a b c : Option (List ℕ)) (rows : List PathRow) (i : ℕ) (row : PathRow) (text : List ℕ) → i < length rows → row ≡ get_or rows i row
-    → text ≡ row_text row → Appends a b (rows_text (take i rows)) → TakesPart b c text → TakesPart a c (rows_text rows)
-row_broken a b c rows i row text within is text_is grown part =
-    subst (TakesPart a c) (sym (rows_at rows i row within is))
-    (part_after a b c (rows_text (take i rows)) (row_text row) (rows_text (drop (suc i) rows)) grown (subst (TakesPart b c) text_is part))
+pub row_broken : (names : List (List ℕ)) (a b c : Option (List ℕ)) (rows : List PathRow) (i : ℕ) (row : PathRow) (text : List ℕ) → i < length rows → row ≡ get_or rows i row
+    → text ≡ row_text names row → Appends a b (rows_text names (take i rows)) → TakesPart b c text → TakesPart a c (rows_text names rows)
+row_broken names a b c rows i row text within is text_is grown part =
+    subst (TakesPart a c) (sym (rows_at names rows i row within is))
+    (part_after a b c (rows_text names (take i rows)) (row_text names row) (rows_text names (drop (suc i) rows)) grown (subst (TakesPart b c) text_is part))
 
 -- the next row after the rows so far
-pub row_written : (a b c : Option (List ℕ)) (rows : List PathRow) (i : ℕ) (row : PathRow) (text : List ℕ) → i < length rows → row ≡ get_or rows i row
-    → text ≡ row_text row → Appends a b (rows_text (take i rows)) → Appends b c text → Appends a c (rows_text (take (i + 1) rows))
-row_written a b c rows i row text within is text_is grown more =
-    subst (Appends a c) (ap (λ l. rows_text (take i rows) ++ l) text_is ∙ sym (rows_more rows i row within is))
-    (Appends-trans a b c (rows_text (take i rows)) text grown more)
+pub row_written : (names : List (List ℕ)) (a b c : Option (List ℕ)) (rows : List PathRow) (i : ℕ) (row : PathRow) (text : List ℕ) → i < length rows → row ≡ get_or rows i row
+    → text ≡ row_text names row → Appends a b (rows_text names (take i rows)) → Appends b c text → Appends a c (rows_text names (take (i + 1) rows))
+row_written names a b c rows i row text within is text_is grown more =
+    subst (Appends a c) (ap (λ l. rows_text names (take i rows) ++ l) text_is ∙ sym (rows_more names rows i row within is))
+    (Appends-trans a b c (rows_text names (take i rows)) text grown more)
 
 pub path_counted : (rows : List PathRow) (i : ℕ) (row : PathRow) (totals : Totals) → i < length rows → row ≡ get_or rows i row
     → totals ≡ totals_of (take i rows) → is_path row.outcome ≡ true → record totals { paths = totals.paths + 1 } ≡ totals_of (take (i + 1) rows)

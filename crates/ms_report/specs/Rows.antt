@@ -2,7 +2,8 @@
 use Rattle.std.specs.Prelude.{ℕ, List, [], ◌∷◌, ◌++◌, ℤ, Bool, true, false, codes}
 use Rattle.std.specs.Fmt.{decimal, signed_decimal}
 use Rattle.std.specs.List.{flat_map, join_by}
-use Rattle.ms_command.specs.Texts.{end_text, line_end}
+use Rattle.ms_command.specs.Endings.{end_text}
+use Rattle.ms_command.specs.Texts.{line_end}
 use Rattle.ms_trie.specs.declared.row.Outcome.{Outcome}
 use Rattle.ms_trie.specs.declared.row.Outcome.TheVariants.{Undecided, Path}
 use Rattle.ms_trie.specs.declared.row.PathRow.{PathRow}
@@ -17,19 +18,19 @@ abbrev pub input_text : List ℤ → List ℕ
 input_text [] = codes "-"
 input_text (word ∷ words) = join_by signed_decimal (codes ",") (word ∷ words)
 
--- the line that says what became of a string
-abbrev pub line_of : List ℕ → Outcome → List ℕ
-line_of string Undecided = codes "undecided " ++ string_text string ++ line_end
-line_of string (Path input end) =
-    codes "path " ++ string_text string ++ codes " input " ++ input_text input.words ++ codes " " ++ end_text end ++ line_end
+-- the line that says what became of a string, by the names of the program's classes
+abbrev pub line_of : List (List ℕ) → List ℕ → Outcome → List ℕ
+line_of names string Undecided = codes "undecided " ++ string_text string ++ line_end
+line_of names string (Path input end) =
+    codes "path " ++ string_text string ++ codes " input " ++ input_text input.words ++ codes " " ++ end_text names end ++ line_end
 
 -- the line of a row
-abbrev pub row_text : PathRow → List ℕ
-row_text row = line_of row.choices row.outcome
+abbrev pub row_text : List (List ℕ) → PathRow → List ℕ
+row_text names row = line_of names row.choices row.outcome
 
 -- the lines of rows
-abbrev pub rows_text : List PathRow → List ℕ
-rows_text rows = flat_map row_text rows
+abbrev pub rows_text : List (List ℕ) → List PathRow → List ℕ
+rows_text names rows = flat_map (row_text names) rows
 
 -- whether a row is that of a path
 abbrev pub is_path : Outcome → Bool

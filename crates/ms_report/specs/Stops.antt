@@ -23,6 +23,6 @@ HasStopped NoMemory before now = now ≡ before
 
 -- A write failed only where there is a row to write. Memory ran out before one of the rows, and the sink took the lines of those
 -- before it.
-abbrev pub StopsAtRow : ReportStop → List PathRow → Option (List ℕ) → Option (List ℕ) → Type 0
-StopsAtRow WriteFault rows taken taken_now = rows ≢ []
-StopsAtRow NoMemory rows taken taken_now = (i : ℕ) × (i < length rows) × Appends taken taken_now (rows_text (take i rows))
+abbrev pub StopsAtRow : ReportStop → List (List ℕ) → List PathRow → Option (List ℕ) → Option (List ℕ) → Type 0
+StopsAtRow WriteFault names rows taken taken_now = rows ≢ []
+StopsAtRow NoMemory names rows taken taken_now = (i : ℕ) × (i < length rows) × Appends taken taken_now (rows_text names (take i rows))

@@ -4,12 +4,13 @@ ghost use Rattle.ms_report.specs.Rows as rows;
 use crate::number::{push_input, push_string};
 use ms_command::end_text;
 use ms_trie::{Outcome, PathRow};
-use ms_words::NoMemory;
+use ms_words::{Name, NoMemory};
 use std::alloc::Global;
 
-/// The text of a row: one line, ended by a line feed.
-pub fn row_text(alloc: Global, row: &PathRow) -> Result<Vec<u8>, NoMemory>
-    ensures { IfOk result (λ text. text.items ≡ rows.row_text row.now) }
+/// The text of a row: one line, ended by a line feed. `names` has the names of the program's classes by
+/// their numbers.
+pub fn row_text(alloc: Global, names: &[Name], row: &PathRow) -> Result<Vec<u8>, NoMemory>
+    ensures { IfOk result (λ text. text.items ≡ rows.row_text names.now row.now) }
 {
     match &row.outcome {
         Outcome::Undecided => {
@@ -24,7 +25,7 @@ pub fn row_text(alloc: Global, row: &PathRow) -> Result<Vec<u8>, NoMemory>
             text.extend_from_slice(b" input ")?;
             push_input(alloc, &mut text, input.words())?;
             text.push(b' ')?;
-            let ended = end_text(alloc, end)?;
+            let ended = end_text(alloc, names, end)?;
             text.extend_from_slice(ended.bytes())?;
             text.push(b'\n')?;
             Ok(text)

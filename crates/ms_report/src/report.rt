@@ -8,7 +8,7 @@ ghost use Rattle.ms_report.specs.Stops.{StopsAtRow, HasStopped, totals_of};
 use crate::line::row_text;
 use ms_outside::{Sink, write_all};
 use ms_trie::{Outcome, PathRow};
-use ms_words::NoMemory;
+use ms_words::{Name, NoMemory};
 use std::alloc::Global;
 use thiserror::Error;
 
@@ -40,30 +40,33 @@ impl From<NoMemory> for ReportStop {
     }
 }
 
-/// Writes the rows, at most 4,294,967,295, to the sink, each by a line, and counts them. Where a write
+/// Writes the rows, at most 4,294,967,295, to the sink, each by a line, and counts them. `names` has the
+/// names of the program's classes by their numbers, which the line of a path names that ends with an
+/// initialiser that failed. Where a write
 /// fails, the sink has taken some first bytes of the report, perhaps none, and nothing else; where memory
 /// runs out, before one of the rows, the lines of those before it. The sink's count of faults has risen
 /// exactly where a write failed.
 pub fn write_report<K: Sink>(
     alloc: Global,
+    names: &[Name],
     rows: &[PathRow],
     sink: &mut K,
 ) -> Result<Totals, ReportStop>
     requires { length rows.now ≤ 4_294_967_295 }
     ensures totals { IfOk result (λ totals. totals ≡ totals_of rows.now) }
-    ensures whole { OnOk result (Appends (K.taken sink.old) (K.taken sink.new) (rows_text rows.now)) }
-    ensures part { OnErr result (TakesPart (K.taken sink.old) (K.taken sink.new) (rows_text rows.now)) }
+    ensures whole { OnOk result (Appends (K.taken sink.old) (K.taken sink.new) (rows_text names.now rows.now)) }
+    ensures part { OnErr result (TakesPart (K.taken sink.old) (K.taken sink.new) (rows_text names.now rows.now)) }
     ensures steady { OnOk result (K.faults sink.new ≡ K.faults sink.old) }
     ensures cause { IfErr result (λ stop. HasStopped stop (K.faults sink.old) (K.faults sink.new)) }
     ensures grows { K.faults sink.old ≤ K.faults sink.new }
-    ensures row { IfErr result (λ stop. StopsAtRow stop rows.now (K.taken sink.old) (K.taken sink.new)) }
+    ensures row { IfErr result (λ stop. StopsAtRow stop names.now rows.now (K.taken sink.old) (K.taken sink.new)) }
 {
     let mut totals = Totals {
         paths: 0,
         undecided: 0,
     };
     for row in rows {
-        let text = row_text(alloc, row)?;
+        let text = row_text(alloc, names, row)?;
         let Ok(()) = write_all(sink, text.as_slice()) else {
             return Err(ReportStop::WriteFault);
         };

@@ -28,7 +28,7 @@ use Rattle.ms_session.specs.Known.{Known, explore}
 use Rattle.ms_trie.specs.declared.row.PathRow.{PathRow}
 use Rattle.ms_session.specs.Paths.{report}
 use Rattle.ms_session.specs.States.{State, class_named, is_boolean}
-use Rattle.ms_session.specs.Steps.{entry_next, explore_next, how_far, is_entry, is_unfinished, names_in, next, once_reply, report_next, reported}
+use Rattle.ms_session.specs.Steps.{entry_next, explore_next, how_far, is_entry, is_unfinished, names_in, names_with, next, once_reply, report_next, reported}
 use Rattle.ms_session.specs.Sessions.{FetchCause, IsShort, Leads, Prepared, PrepareStops, Says, Unanswered, classes_in, entry_in, listed, output_text}
 
 -- the entry is the method of the file
@@ -59,9 +59,10 @@ unfinished_leads state method entry is = record {
   state_is = ap (λ o. (report_next state o).state) entry ∙ rw is refl;
 }
 
-pub report_leads : (state : State) (method : Method) (rows : Vec PathRow) → state.entry ≡ Some method → is_unfinished (program_of method) state.depth state.known ≡ false → rows.items ≡ report (program_of method) state.depth → Leads (report_next state state.entry) (Report rows) state
-report_leads state method rows entry is rows_are = record {
-  text = ap (λ o. (report_next state o).text) entry ∙ rw is (ap reported (sym rows_are));
+pub report_leads : (state : State) (method : Method) (names : Vec (List ℕ)) (rows : Vec PathRow) → state.entry ≡ Some method → is_unfinished (program_of method) state.depth state.known ≡ false → names.items ≡ names_with method → rows.items ≡ report (program_of method) state.depth
+    → Leads (report_next state state.entry) (Report names rows) state
+report_leads state method names rows entry is names_are rows_are = record {
+  text = ap (λ o. (report_next state o).text) entry ∙ rw is (ap (reported (names_with method)) (sym rows_are) ∙ ap (λ l. reported l rows.items) (sym names_are));
   state_is = ap (λ o. (report_next state o).state) entry ∙ rw is refl;
 }
 

@@ -6,7 +6,7 @@ use Rattle.std.proofs.lemmas.List.{length-append, take-append-le}
 use Rattle.std.proofs.Math.Seq.{take-append-add}
 use Rattle.ms_outside.specs.Sinks.{TakesPart}
 use Rattle.ms_command.specs.declared.reply.Reply.{Reply}
-use Rattle.ms_command.specs.declared.reply.Reply.TheVariants.{Ran, ClassAdded, EntrySet, DepthSet, Explored, Reported, Unfinished, Quitting, NoLine, NoCommand, Absent, TooLong, ClassFault, Known, Unknown, NoEntry, EntryMissing, Range, NotBuilt}
+use Rattle.ms_command.specs.declared.reply.Reply.TheVariants.{Ran, ClassAdded, EntrySet, DepthSet, Explored, Reported, Unfinished, Quitting, NoLine, NoCommand, Absent, TooLong, ClassFault, VerifyFault, Known, Unknown, NoEntry, EntryMissing, Range, Words, NotBuilt}
 use Rattle.ms_command.specs.Texts.{reply_text}
 use Rattle.ms_session.specs.declared.stop.Stop.{Stop}
 use Rattle.ms_session.specs.declared.stop.Stop.TheVariants as stops
@@ -55,11 +55,13 @@ reply_has_text NoCommand = omega arith
 reply_has_text (Absent file) = omega arith
 reply_has_text (TooLong file) = omega arith
 reply_has_text (ClassFault kind at) = omega arith
+reply_has_text (VerifyFault kind method offset) = omega arith
 reply_has_text (Known class) = omega arith
 reply_has_text (Unknown class) = omega arith
 reply_has_text NoEntry = omega arith
 reply_has_text EntryMissing = omega arith
 reply_has_text Range = omega arith
+reply_has_text Words = omega arith
 reply_has_text NotBuilt = omega arith
 
 pub stops_behind : (stop : Stop) (xs ys text : List ℕ) (a b c : Option (List ℕ)) (before between now : ℕ) → text ≡ xs ++ ys → Appends a b xs → between ≡ before → WriteStops stop ys b c between now → WriteStops stop text a c before now

@@ -73,13 +73,13 @@ pub record IsSession (has_entry : Bool) (file : Option (Vec ℕ)) (depth : ℕ) 
 abbrev pub output_text : Output → List ℕ
 output_text outputs.Nothing = []
 output_text (outputs.Reply reply) = reply_text reply
-output_text (outputs.Report rows) = reported rows.items
+output_text (outputs.Report names rows) = reported names.items rows.items
 
 -- a report has no more rows than can be counted
 abbrev pub IsShort : Output → Type 0
 IsShort outputs.Nothing = Unit {0}
 IsShort (outputs.Reply reply) = Unit {0}
-IsShort (outputs.Report rows) = length rows.items ≤ 4_294_967_295
+IsShort (outputs.Report names rows) = length rows.items ≤ 4_294_967_295
 
 -- the reply is the text of what comes next, and the state is its state
 pub record Says (next : Next) (reply : Reply) (state : State) : Type 0 where

@@ -11,7 +11,8 @@ use Rattle.ms_command.specs.declared.command.Command.{Command}
 use Rattle.ms_command.specs.declared.command.Command.TheVariants as commands
 use Rattle.ms_command.specs.declared.reply.Reply.{Reply}
 use Rattle.ms_command.specs.declared.reply.Reply.TheVariants as replies
-use Rattle.ms_command.specs.Texts.{end_text, reply_text}
+use Rattle.ms_command.specs.Endings.{end_text}
+use Rattle.ms_command.specs.Texts.{reply_text}
 use Rattle.ms_trie.specs.declared.row.PathRow.{PathRow}
 use Rattle.ms_report.specs.Rows.{rows_text}
 use Rattle.ms_report.specs.Stops.{totals_of}
@@ -58,6 +59,10 @@ kind_name kinds.Switch = codes "Switch"
 abbrev pub fault_reply : FileFault → Reply
 fault_reply fault = replies.ClassFault (kind_name fault.kind) fault.at
 
+-- the names of the classes by their numbers, in the program of one method: that of its class
+abbrev pub names_with : Method → List (List ℕ)
+names_with method = method.class ∷ []
+
 -- ---- once FILE NAME DESC WORD..
 
 -- whether the method has this name and this descriptor, and the words are one of its kind for each parameter
@@ -73,15 +78,15 @@ once_depth = 256
 unfoldable pub once_end : Method → List ℤ → Option PathEnd
 once_end method words = path_end_of (end_of (program_of method) (input_with (program_of method) words) once_depth)
 
--- the reply to a run that ended so
-abbrev pub run_reply : Option PathEnd → Reply
-run_reply None = replies.NotBuilt
-run_reply (Some end) = replies.Ran (end_text end)
+-- the reply to a run of the method that ended so
+abbrev pub run_reply : Method → Option PathEnd → Reply
+run_reply method None = replies.NotBuilt
+run_reply method (Some end) = replies.Ran (end_text (names_with method) end)
 
 -- the reply where the file has this thin method, or is no thin file, as the grammar of thin files says (`read_thin`)
 abbrev pub method_reply : Option Method → List ℕ → List ℕ → List ℤ → Reply
 method_reply None name desc words = replies.NotBuilt
-method_reply (Some method) name desc words = if is_called_so method name desc words then run_reply (once_end method words) else replies.NotBuilt
+method_reply (Some method) name desc words = if is_called_so method name desc words then run_reply method (once_end method words) else replies.NotBuilt
 
 -- the reply to a file with this first fault, or, where it has none, that of its method
 abbrev pub file_reply : Option FileFault → Reply → Reply
@@ -164,21 +169,21 @@ explore_next state n (Some method) = explored_next state (program_of method) (ex
 
 -- ---- report
 
--- the lines of a report, and its end
-abbrev pub reported : List PathRow → List ℕ
-reported rows = rows_text rows ++ reply_text (replies.Reported (totals_of rows).paths (totals_of rows).undecided)
+-- the lines of a report, by the names of the classes, and its end
+abbrev pub reported : List (List ℕ) → List PathRow → List ℕ
+reported names rows = rows_text names rows ++ reply_text (replies.Reported (totals_of rows).paths (totals_of rows).undecided)
 
--- the report of a program, where no string needs settling
-abbrev pub report_of : State → Program → Next
-report_of state P =
+-- the report of a program with these names of classes, where no string needs settling
+abbrev pub report_of : State → List (List ℕ) → Program → Next
+report_of state names P =
     if is_unfinished P state.depth state.known
     then replied state replies.Unfinished
-    else record { text = reported (report P state.depth); state = state; asks = 0 }
+    else record { text = reported names (report P state.depth); state = state; asks = 0 }
 
 -- `report`, by the entry
 abbrev pub report_next : State → Option Method → Next
 report_next state None = replied state replies.NoEntry
-report_next state (Some method) = report_of state (program_of method)
+report_next state (Some method) = report_of state (names_with method) (program_of method)
 
 -- ---- ALL COMMANDS
 

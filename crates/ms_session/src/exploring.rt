@@ -7,7 +7,7 @@ use crate::known::Known;
 use crate::runs::Run;
 use crate::tree::Node;
 use ms_trie::{ChoiceString, Outcome, PathRow};
-use ms_words::{Ended, NoMemory, PathEnd};
+use ms_words::NoMemory;
 use std::alloc::Global;
 
 /// How many strings were settled, and how many asks that took.
@@ -76,20 +76,10 @@ fn row(alloc: Global, string: &ChoiceString, run: &Run) -> Result<PathRow, NoMem
 {
     let outcome = Outcome::Path {
         input: run.input,
-        end: same_end(&run.path.end),
+        end: run.path.end.copy(alloc)?,
     };
     Ok(PathRow {
         choices: string.copy(alloc)?,
         outcome,
     })
-}
-
-/// The same end once more.
-fn same_end(end: &PathEnd) -> PathEnd
-    ensures { result ≡ end.now }
-{
-    match end {
-        PathEnd::Ended(Ended::Returned(word)) => PathEnd::Ended(Ended::Returned(*word)),
-        PathEnd::Cut => PathEnd::Cut,
-    }
 }

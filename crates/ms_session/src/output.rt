@@ -10,6 +10,7 @@ use ms_command::{Reply, write_reply};
 use ms_outside::{Sink, write_all};
 use ms_report::{ReportStop, write_report};
 use ms_trie::PathRow;
+use ms_words::Name;
 use std::alloc::Global;
 
 /// What a command is about to write.
@@ -19,8 +20,11 @@ pub enum Output {
     Nothing,
     /// A reply.
     Reply(Reply),
-    /// The rows of a report, and then its totals.
-    Report(Vec<PathRow>),
+    /// The rows of a report, and then its totals; `names` has the names of the classes by their numbers.
+    Report {
+        names: Vec<Name>,
+        rows: Vec<PathRow>,
+    },
 }
 
 /// Writes it. A report has at most 4,294,967,295 rows.
@@ -33,7 +37,9 @@ pub fn write_output<K: Sink>(alloc: Global, output: &Output, sink: &mut K) -> Re
     match output {
         Output::Nothing => Ok(()),
         Output::Reply(reply) => say(alloc, reply, sink),
-        Output::Report(rows) => report(alloc, rows.as_slice(), sink),
+        Output::Report { names, rows } => {
+            report(alloc, names.as_slice(), rows.as_slice(), sink)
+        },
     }
 }
 
@@ -53,13 +59,18 @@ fn say<K: Sink>(alloc: Global, reply: &Reply, sink: &mut K) -> Result<(), Stop>
 }
 
 /// Writes the rows of a report, and then its totals.
-fn report<K: Sink>(alloc: Global, rows: &[PathRow], sink: &mut K) -> Result<(), Stop>
+fn report<K: Sink>(
+    alloc: Global,
+    names: &[Name],
+    rows: &[PathRow],
+    sink: &mut K,
+) -> Result<(), Stop>
     requires { length rows.now ≤ 4_294_967_295 }
     ensures { MatchResult result
-        (λ _. Appends (K.taken sink.old) (K.taken sink.new) (reported rows.now) × (K.faults sink.new ≡ K.faults sink.old))
-        (λ stop. WriteStops stop (reported rows.now) (K.taken sink.old) (K.taken sink.new) (K.faults sink.old) (K.faults sink.new)) }
+        (λ _. Appends (K.taken sink.old) (K.taken sink.new) (reported names.now rows.now) × (K.faults sink.new ≡ K.faults sink.old))
+        (λ stop. WriteStops stop (reported names.now rows.now) (K.taken sink.old) (K.taken sink.new) (K.faults sink.old) (K.faults sink.new)) }
 {
-    let totals = match write_report(alloc, rows, sink) {
+    let totals = match write_report(alloc, names, rows, sink) {
         Ok(totals) => totals,
         Err(ReportStop::WriteFault) => return Err(Stop::WriteFault),
         Err(ReportStop::NoMemory) => return Err(Stop::NoMemory),

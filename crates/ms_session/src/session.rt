@@ -16,7 +16,7 @@ ghost use Rattle.ms_session.specs.Steps as steps;
 ghost use Rattle.ms_session.specs.Steps.{method_reply};
 ghost use Rattle.ms_program.specs.Reading.{first_fault};
 
-use crate::calling::call;
+use crate::calling::{call, one_name};
 use crate::entry::{explore_entry, report_entry};
 use crate::fault::fault_reply;
 use crate::fetching::{Fetched, ask};
@@ -275,7 +275,8 @@ impl Session {
         if rows.len() > MOST_ROWS {
             return Err(AllocError);
         }
-        Ok(Output::Report(rows))
+        let names = one_name(alloc, method.class)?;
+        Ok(Output::Report { names, rows })
     }
 }
 

@@ -37,7 +37,7 @@ fn check_path(
         arms,
         "{code:?} at {words:?} to {depth}"
     );
-    let text = end_text(rt.alloc(), &path.end)?;
+    let text = end_text(rt.alloc(), &[], &path.end)?;
     assert_eq!(rt;
         text.bytes(),
         end.as_bytes(),
@@ -49,7 +49,7 @@ fn check_path(
         arms.len(),
         "{code:?} at {words:?} to {depth}"
     );
-    let text = end_text(rt.alloc(), &ran.end)?;
+    let text = end_text(rt.alloc(), &[], &ran.end)?;
     assert_eq!(rt;
         text.bytes(),
         end.as_bytes(),

@@ -2,7 +2,7 @@
 //! printed texts.
 
 use ms_classfile::thin_files_are_read;
-use ms_command::{CommandRefusal, Reply, write_reply};
+use ms_command::{CommandRefusal, Reply, end_text, write_reply};
 use ms_jvm::thin_methods_end;
 use ms_memoise::{MOST_INPUT, Status, memoise};
 use ms_outside::{
@@ -12,7 +12,7 @@ use ms_pool::Short;
 use ms_session::{
     least_inputs_come_first, path_list_is_unique, reports_list_each_path, trees_are_in_choice_order,
 };
-use ms_words::{Name, thrown_named};
+use ms_words::{Ended, Footprint, Item, Name, PathEnd, Thrown, thrown_named};
 use std::alloc::{AllocError, Global};
 use std::test::Fail;
 use tests_devices::ADDS;
@@ -113,6 +113,90 @@ fn a_strange_name_is_printed(rt: HostRuntime) -> Result<(), Fail> {
     let want =
         b"refused 3 Absent a\\x5cb\\x20!~\\x00\\x1f\\x7f\\xff\nrefused 4 TooLong \\xff\\x20b\n";
     assert_eq!(rt; text.as_slice(), want.as_slice());
+    Ok(())
+}
+
+/// Copies of these ends as they are printed, each in a line.
+fn printed_ends(alloc: Global, names: &[Name], ends: &[PathEnd]) -> Result<Vec<u8>, AllocError> {
+    let mut text = Vec::new(alloc);
+    for end in ends {
+        let again = end.copy(alloc)?;
+        let printed = end_text(alloc, names, &again)?;
+        text.extend_from_slice(printed.bytes())?;
+        text.push(b'\n')?;
+    }
+    Ok(text)
+}
+
+/// What `printed_ends` gives: by hand, from the forms of the ends.
+const PRINTED: &[u8] = b"returns -7
+returns void
+throws java/lang/ArrayIndexOutOfBoundsException
+initfailed T
+initfailed U\\x20\\xff
+initfailed 
+missing B.f\\x5c(I)I
+runaway
+deep
+symlength
+heapfull
+cut
+";
+
+#[test]
+fn ends_are_printed(rt: HostRuntime) -> Result<(), Fail> {
+    let missing = Name::of(rt.alloc(), b"B.f\\(I)I")?;
+    let names = [
+        Name::of(rt.alloc(), b"T")?,
+        Name::of(rt.alloc(), b"U \xff")?,
+    ];
+    let ends = [
+        PathEnd::Ended(Ended::Returned(-7)),
+        PathEnd::Ended(Ended::ReturnedVoid),
+        PathEnd::Ended(Ended::Threw(Thrown::ArrayIndexOutOfBounds)),
+        PathEnd::Ended(Ended::InitFailed(0)),
+        PathEnd::Ended(Ended::InitFailed(1)),
+        PathEnd::Ended(Ended::InitFailed(2)),
+        PathEnd::Ended(Ended::Missing(missing)),
+        PathEnd::Ended(Ended::Runaway),
+        PathEnd::Ended(Ended::Deep),
+        PathEnd::Ended(Ended::SymLength),
+        PathEnd::Ended(Ended::HeapFull),
+        PathEnd::Cut,
+    ];
+    let text = printed_ends(rt.alloc(), &names, &ends)?;
+    assert_eq!(rt; text.as_slice(), PRINTED);
+    Ok(())
+}
+
+#[test]
+fn refusals_of_methods_are_printed(rt: HostRuntime) -> Result<(), Fail> {
+    let kind = Name::of(rt.alloc(), b"FallOff")?;
+    let method = Name::of(rt.alloc(), b"f (I)I")?;
+    let fault = Reply::VerifyFault {
+        kind,
+        method,
+        offset: 65_535,
+    };
+    let mut text = write_reply(rt.alloc(), &fault)?;
+    let words = write_reply(rt.alloc(), &Reply::Words)?;
+    text.extend_from_slice(words.as_slice())?;
+    let want = b"refused 6 Verify FallOff f\\x20(I)I 65535\nrefused 16 Words\n";
+    assert_eq!(rt; text.as_slice(), want.as_slice());
+    Ok(())
+}
+
+#[test]
+fn a_footprint_lists_its_items(rt: HostRuntime) -> Result<(), Fail> {
+    let place = Item::At {
+        class: 1,
+        method: 2,
+        offset: 3,
+    };
+    let mut footprint = Footprint::new(rt.alloc());
+    footprint.add(Item::Entry)?;
+    footprint.add(place)?;
+    assert_eq!(rt; footprint.items(), [Item::Entry, place].as_slice());
     Ok(())
 }
 

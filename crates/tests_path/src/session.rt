@@ -397,7 +397,7 @@ fn given_up(alloc: Global) -> Result<PathRow, AllocError> {
 fn reports_are_written_row_by_row(rt: HostRuntime) -> Result<(), Fail> {
     let rows = [given_up(rt.alloc())?, path(rt.alloc())?];
     let mut sink = MemorySink::new(rt.alloc(), Vec::new(rt.alloc()));
-    let totals = write_report(rt.alloc(), &rows, &mut sink);
+    let totals = write_report(rt.alloc(), &[], &rows, &mut sink);
     let want = Totals {
         paths: 1,
         undecided: 1,
@@ -407,10 +407,10 @@ fn reports_are_written_row_by_row(rt: HostRuntime) -> Result<(), Fail> {
     assert_eq!(rt; sink.taken(), text.as_slice());
     let second = Vec::from_slice(rt.alloc(), &[2])?;
     let mut sink = MemorySink::new(rt.alloc(), second);
-    let stopped = write_report(rt.alloc(), &rows, &mut sink);
+    let stopped = write_report(rt.alloc(), &[], &rows, &mut sink);
     assert_eq!(rt; stopped, Err(ReportStop::WriteFault));
     assert_eq!(rt; sink.taken(), b"undecided 0.12\n".as_slice());
-    let end = end_text(rt.alloc(), &PathEnd::Cut)?;
+    let end = end_text(rt.alloc(), &[], &PathEnd::Cut)?;
     assert_eq!(rt; end.bytes(), b"cut".as_slice());
     Ok(())
 }

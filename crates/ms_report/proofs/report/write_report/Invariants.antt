@@ -9,6 +9,6 @@ abbrev pub invariant-loop-row : goal.invariant-loop-row
 invariant-loop-row g l = record {
   counted : l.totals ≡ totals_of (take l.row-index l.rows);
   few : l.totals.paths + l.totals.undecided ≡ l.row-index;
-  written : Appends (g.K.Sink.taken l.fn.sink) (g.K.Sink.taken l.sink) (rows_text (take l.row-index l.rows));
+  written : Appends (g.K.Sink.taken l.fn.sink) (g.K.Sink.taken l.sink) (rows_text l.names (take l.row-index l.rows));
   steady : g.K.Sink.faults l.sink ≡ g.K.Sink.faults l.fn.sink;
 }

@@ -1,6 +1,6 @@
 use Rattle.std.proofs.Common.{◌≡◌, take}
-use Rattle.ms_command.specs.Texts.{printed_name}
-use Rattle.ms_command.proofs.reply.printed.Given as goal
+use Rattle.ms_command.specs.Names.{printed_name}
+use Rattle.ms_command.proofs.printing.printed.Given as goal
 
 -- what was printed so far
 abbrev pub invariant-loop-byte : goal.invariant-loop-byte
