@@ -18,3 +18,4 @@ pub mod Finding
 pub mod Turning
 pub mod Leading
 pub mod Starting
+pub mod FirstFault

@@ -1,4 +1,4 @@
-ghost use Rattle.std.specs.Prelude.{◌≡◌, ◌<◌, IsSome, Some, length, ℕ};
+ghost use Rattle.std.specs.Prelude.{◌≡◌, ◌↔◌, ◌<◌, IsSome, None, Some, length, ℕ};
 ghost use Rattle.ms_program.specs.declared.body.Body.{Body};
 ghost use Rattle.ms_program.specs.declared.method.MethodId.{MethodId};
 ghost use Rattle.ms_program.specs.Programs.{IsProgram, Program, body_of, method_id};
@@ -7,6 +7,7 @@ ghost use Rattle.ms_linking.specs.Linked.{program_of};
 ghost use Rattle.ms_typing.specs.declared.kind.VerifyKind.{VerifyKind};
 ghost use Rattle.ms_typing.specs.Typed.{IsNeverStuck, IsVerified, Typings};
 ghost use Rattle.ms_typing.specs.Verifier.{Method};
+ghost use Rattle.ms_verify.specs.Faults.{ProgramFault, fault_of};
 ghost use Rattle.ms_verify.specs.Laws.{AreLastShapes};
 ghost use Rattle.ms_verify.specs.Methods.{AllAccepted, HasFirstFault, method_of};
 
@@ -33,6 +34,17 @@ pub fn accepted_programs_have_no_fault()
 {
     methods_are_seen();
     methods_have_one_outcome();
+}
+
+/// The law of first faults: that of a program is a function of it, `fault_of`, which says the first fault where
+/// a program has one, and none exactly where all its methods are accepted. It does nothing.
+pub fn first_faults_are_found()
+    ensures found { (P : Program) (fault : ProgramFault) → IsProgram P → HasFirstFault P fault.class fault.method fault.offset fault.kind ↔ (fault_of P ≡ Some fault) }
+    ensures none { (P : Program) → IsProgram P → AllAccepted P ↔ (fault_of P ≡ None) }
+{
+    methods_are_seen();
+    methods_have_one_outcome();
+    accepted_programs_have_no_fault();
 }
 
 /// The law of the types of an accepted program: all rules hold of the last shapes of its methods, in the

@@ -14,7 +14,7 @@ mod verified;
 
 pub use laws::{
     accepted_programs_are_never_stuck, accepted_programs_are_verified,
-    accepted_programs_have_no_fault, methods_are_seen,
+    accepted_programs_have_no_fault, first_faults_are_found, methods_are_seen,
 };
 pub use ms_typing::{PlaceKind, VerifyKind};
 pub use verified::{Unverified, Verified, VerifyWhy};
