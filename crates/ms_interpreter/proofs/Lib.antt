@@ -1,0 +1,14 @@
+mod FieldsOf
+mod ArraysOf
+mod Room
+mod LocalsOf
+mod Taking
+mod Acted
+mod StaticsOf
+mod Reaching
+mod Picked
+mod Shuffled
+mod Dispatched
+mod Quiet
+mod Settled
+mod Arguments

@@ -1,0 +1,11 @@
+use Rattle.ms_linking.specs.Told.{member_told}
+use Rattle.ms_interpreter.proofs.Reaching.{put_class, put_did}
+use Rattle.ms_interpreter.proofs.acting.members.put_static.Goals as goal
+
+pub returns-in-Did-clause-acts : goal.returns-in-Did-clause-acts
+returns-in-Did-clause-acts g c = put_did (member_told c.args.member.now) c.args.frame.now c.args.memory.now c.access.new.memory c.in-Did.did c.args.field_type (rw c.in-Did.is at c.in_ok-did.ensures)
+
+pub returns-in_ok-did-in-Class-clause-acts : goal.returns-in_ok-did-in-Class-clause-acts
+returns-in_ok-did-in-Class-clause-acts g c =
+    put_class (member_told c.args.member.now) c.args.frame.now c.args.memory.now c.access.new.memory c.args.field_type c.in-Class.class c.in_ok-did-in-Class.did c.write_field.new.frame c.write_field.new.memory
+    (rw c.in-Class.is at c.in_ok-did.ensures) c.in_ok-did-in-Class.ensures.writes

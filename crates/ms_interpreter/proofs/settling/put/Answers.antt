@@ -1,0 +1,12 @@
+use Rattle.std.proofs.Common.{sym, ap, ◌∙◌}
+use Rattle.ms_machine.specs.Effects.{Moves, Next}
+use Rattle.ms_interpreter.specs.Frames.{Frame}
+use Rattle.ms_interpreter.specs.Plans.{planned}
+use Rattle.ms_interpreter.specs.Seen.{here_of}
+use Rattle.ms_interpreter.proofs.Settled as settled
+use Rattle.ms_interpreter.proofs.settling.put.Goals as goal
+
+pub returns-clause-lead : goal.returns-clause-lead
+returns-clause-lead g c = λ texts.
+    ap (Moves Next) (settled.put g.A.Arithmetic.ints g.A.Arithmetic.means texts c.args.frame.now c.args.memory.now c.args.local (planned c.args.plan) c.in_ok-a.a c.in_ok-a.ensures
+    ∙ ap (λ (frame : Frame _). here_of g.A.Arithmetic.means texts frame c.args.memory.now) (sym c.in_ok-set_local.ensures))

@@ -1,0 +1,10 @@
+pub mod Frames
+pub mod Locals
+pub mod Fields
+pub mod Seen
+pub mod Plans
+pub mod Doing
+pub mod Taken
+pub mod Accessing
+pub mod Asking
+pub mod Leads
