@@ -10,5 +10,9 @@ mod Picked
 mod Shuffled
 mod Dispatched
 mod Quiet
-mod Settled
 mod Arguments
+mod Settled
+mod Views
+mod Turned
+mod Cases
+mod Steps

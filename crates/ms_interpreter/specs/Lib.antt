@@ -8,3 +8,4 @@ pub mod Taken
 pub mod Accessing
 pub mod Asking
 pub mod Leads
+pub mod Turns
