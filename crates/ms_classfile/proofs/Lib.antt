@@ -21,3 +21,4 @@ mod Members
 mod Lying
 pub mod Distinct
 pub mod Held
+mod Places

@@ -1,5 +1,7 @@
 -- What is said of each class file.
 use Rattle.std.specs.Prelude.{◌≡◌, ℕ, ◌+◌, ◌*◌, ◌^◌, ◌<◌, ◌≤◌, List, [], ◌∷◌, ◌++◌, length, false, IfSome, All}
+use Rattle.ms_classfile.specs.declared.fault.ClassFault.{ClassFault}
+use Rattle.ms_classfile.specs.declared.fault.ClassFault.TheVariants.{At, NoMemory}
 use Rattle.ms_classfile.specs.ClassFile.{Code, Method, is_there}
 
 -- Of a code in a file of so many bytes: it has from 1 to 65,535 bytes, and it and its exception table, of which each entry has
@@ -23,3 +25,8 @@ AreNew earlier (key ∷ keys) = (is_there key.0 key.1 earlier ≡ false) × AreN
 -- no two of these keys are equal
 abbrev pub AreDistinct : List (List ℕ × List ℕ) → Type 0
 AreDistinct keys = AreNew [] keys
+
+-- the fault is one of the file, with a kind and a place
+abbrev pub IsPlaced : ClassFault → Type 0
+IsPlaced (At kind at) = Unit {0}
+IsPlaced NoMemory = ⊥

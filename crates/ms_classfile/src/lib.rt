@@ -15,6 +15,6 @@ pub use fault::ClassFault;
 pub use instruction::{Condition, Instruction};
 pub use reading::{
     class_files_are_read, class_files_are_whole_or_have_a_fault, codes_lie_in_their_file,
-    members_are_distinct, pools_lie_in_their_file, read_class,
+    faults_have_places, members_are_distinct, pools_lie_in_their_file, read_class,
 };
 pub use thin::{ThinMethod, read_thin, thin_files_are_read};

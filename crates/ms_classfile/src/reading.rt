@@ -3,7 +3,7 @@
 ghost use Rattle.std.specs.Prelude.{◌≡◌, ◌⊎◌, ◌↔◌, ◌<◌, ◌^◌, All, Err, IfErr, IfOk, List, Ok, length, map, ℕ};
 ghost use Rattle.ms_classfile.specs.ClassFile as files;
 ghost use Rattle.ms_classfile.specs.ClassFile.{IsClassFile, IsFirstFaultOf, class_file, counted, field_key, header, interface, is_object, method_key, pool, pool_fault, short, class_and_super};
-ghost use Rattle.ms_classfile.specs.ClassLaws.{AreDistinct, HasCodeWithin};
+ghost use Rattle.ms_classfile.specs.ClassLaws.{AreDistinct, HasCodeWithin, IsPlaced};
 ghost use Rattle.ms_classfile.specs.ClassFinds.{Finds, Gives, Leads};
 ghost use Rattle.ms_classfile.specs.ClassViews.{class_view};
 ghost use Rattle.ms_classfile.specs.declared.fault.ClassFault as faults;
@@ -210,6 +210,11 @@ pub fn class_files_are_whole_or_have_a_fault()
     // They are that of one class at most, and have one first fault at most.
     ensures one_class { (bytes : List ℕ) (first second : files.Class) → All (λ byte. byte < 256) bytes → IsClassFile bytes first → IsClassFile bytes second → first ≡ second }
     ensures one_fault { (bytes : List ℕ) (first second : faults.ClassFault) → All (λ byte. byte < 256) bytes → IsFirstFaultOf bytes first → IsFirstFaultOf bytes second → first ≡ second }
+{}
+
+/// The law of faults: the first fault of bytes has a kind and a place. It does nothing.
+pub fn faults_have_places()
+    ensures { (bytes : List ℕ) (fault : faults.ClassFault) → IsFirstFaultOf bytes fault → IsPlaced fault }
 {}
 
 /// The law of codes in class files, of bytes below 256. It does nothing.

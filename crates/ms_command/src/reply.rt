@@ -92,8 +92,8 @@ pub enum Reply {
     /// `refused 16 Words`: the words aren't as many as the method has parameters, or one isn't of its
     /// parameter's kind.
     Words,
-    /// `refused 90 NotBuilt`: the file, which has no fault, the method or the words are beyond what is built
-    /// so far, or a class of another name is present.
+    /// `refused 90 NotBuilt`: what the command asks for is beyond what is built so far. The file, which has no
+    /// fault, isn't thin, a parameter of the entry isn't boolean, or a class of another name is present.
     NotBuilt,
 }
 

@@ -14,5 +14,6 @@ mod Arguments
 mod Settled
 mod Views
 mod Turned
+mod Started
 mod Cases
 mod Steps

@@ -9,3 +9,4 @@ pub mod Accessing
 pub mod Asking
 pub mod Leads
 pub mod Turns
+pub mod Begun

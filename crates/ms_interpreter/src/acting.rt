@@ -17,6 +17,7 @@ use crate::did::Did;
 use crate::frame::Frame;
 use crate::memory::Memory;
 use crate::plan::Plan;
+pub(crate) use accessing::initialiser_name;
 use arrays::{load_cell, store_cell};
 use ints::{
     change, combine, compare, compare_zero, divide, increment, load, push_null, store, switch,

@@ -137,7 +137,7 @@ fn jump<A: Arithmetic>(
 }
 
 /// A new frame stands above, unless as many stand as may.
-fn enter<A: Arithmetic>(
+pub(crate) fn enter<A: Arithmetic>(
     alloc: Global,
     item: Item,
     locals: Vec<Option<Slot<A::Int>>>,

@@ -12,10 +12,12 @@ use Rattle.ms_code.specs.Instructions.{instruction, behind, operand, s2}
 use Rattle.ms_code.specs.Opcodes.{form_of}
 use Rattle.ms_program.specs.Reading.{file_read, first_fault}
 use Rattle.ms_machine.specs.Segments.{most_instructions}
+use Rattle.ms_linking.specs.Groups.{group_of}
+use Rattle.ms_verify.specs.Faults.{fault_of, fault_of_method}
 use Rattle.ms_memoise.specs.Lines.{whole_lines}
 use Rattle.ms_session.specs.Paths.{tree_from, words_of}
 use Rattle.ms_session.specs.Known.{explore}
-use Rattle.ms_session.specs.Steps.{once_end}
+use Rattle.ms_session.specs.Once.{once_end}
 use Rattle.ms_memoise.specs.Events.{replies, up_to_quit}
 
 -- a carriage return goes before a line feed alone, and the last line counts where it isn't empty
@@ -49,9 +51,9 @@ shelf = record { name = codes "T.class"; bytes = file } ∷ record { name = code
 abbrev input : List ℕ
 input = codes "once T.class f (II)I 2147483647 1" ++ 10 ∷ codes "once T.class f (II)I -1 1" ++ 10 ∷ codes "once T.class f (II)I 1" ++ 10 ∷ codes "once U.class f (II)I 1 1" ++ 10 ∷ codes "once T.class f (II)I 2147483648 1" ++ 10 ∷ 127 ∷ 10 ∷ codes "twice"
 
-some_replies : replies shelf input ≡ codes "ok returns -2147483648" ++ 10 ∷ codes "ok returns 0" ++ 10 ∷ codes "refused 90 NotBuilt" ++ 10 ∷ codes "refused 3 Absent U.class" ++ 10 ∷ codes "refused 13 Range" ++ 10 ∷ codes "refused 1 Line" ++ 10 ∷ codes "refused 2 Command" ++ 10 ∷ []
-unfolding int_wrap digits thin_method repeated text_at class_at entry_at pool_at attribute_at attributes_at load_at push_at offset_at branch_at operand_at instruction_at instructions_at limits_at rest_is_plain code_of method_at header_at class_part_at counts_at most_instructions once_end
-some_replies = rw no_fault refl
+some_replies : replies shelf input ≡ codes "ok returns -2147483648" ++ 10 ∷ codes "ok returns 0" ++ 10 ∷ codes "refused 16 Words" ++ 10 ∷ codes "refused 3 Absent U.class" ++ 10 ∷ codes "refused 13 Range" ++ 10 ∷ codes "refused 1 Line" ++ 10 ∷ codes "refused 2 Command" ++ 10 ∷ []
+unfolding int_wrap digits first_fault file_read class_file header class_and_super interface pool pool_read.pool_at pool_read.entries_at pool_read.entry_at pool_read.behind_tag pool_read.text_at pool_read.one_at indexed attribute passed method method_attribute code_attribute code head decoded step instruction behind operand form_of s2 group_of fault_of fault_of_method most_instructions once_end
+some_replies = refl
 
 -- a line of 4,097 bytes
 long_reply : replies [] (replicate 4097 32) ≡ codes "refused 1 Line" ++ 10 ∷ []
@@ -60,9 +62,9 @@ long_reply = refl
 abbrev branches : List ℕ
 branches = codes "once B.class f (ZZ)I 0 1" ++ 10 ∷ codes "once B.class f (ZZ)I 0 0" ++ 10 ∷ codes "once B.class f (ZZ)I 1 0" ++ 10 ∷ codes "once B.class f (ZZ)I 2 0"
 
-branched_replies : replies shelf branches ≡ codes "ok returns 0" ++ 10 ∷ codes "ok returns 2" ++ 10 ∷ codes "ok returns 1" ++ 10 ∷ codes "refused 90 NotBuilt" ++ 10 ∷ []
-unfolding int_wrap digits thin_method repeated text_at class_at entry_at pool_at attribute_at attributes_at load_at push_at offset_at branch_at operand_at instruction_at instructions_at limits_at rest_is_plain code_of method_at header_at class_part_at counts_at most_instructions once_end
-branched_replies = rw no_branching_fault refl
+branched_replies : replies shelf branches ≡ codes "ok returns 0" ++ 10 ∷ codes "ok returns 2" ++ 10 ∷ codes "ok returns 1" ++ 10 ∷ codes "refused 16 Words" ++ 10 ∷ []
+unfolding int_wrap digits first_fault file_read class_file header class_and_super interface pool pool_read.pool_at pool_read.entries_at pool_read.entry_at pool_read.behind_tag pool_read.text_at pool_read.one_at indexed attribute passed method method_attribute code_attribute code head decoded step instruction behind operand form_of s2 group_of fault_of fault_of_method most_instructions once_end
+branched_replies = refl
 
 -- a quit is a line whose only token is the word
 some_up_to_quit : up_to_quit (codes "quit now" ∷ codes " quit " ∷ codes "report" ∷ []) ≡ codes "quit now" ∷ codes " quit " ∷ []

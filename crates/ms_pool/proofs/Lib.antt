@@ -9,3 +9,4 @@ mod Placing
 mod Whole
 mod Linked
 mod Parts
+pub mod Placed

@@ -62,7 +62,7 @@ get_other (first ∷ classes) class (suc i) zero other = refl
 get_other (first ∷ classes) class (suc i) (suc j) other = get_other classes class i j (λ same. other (ap (λ (n : ℕ). suc n) same))
 
 -- the method that is found can be an entry, where its name and descriptor say so
-found_enters : (class : Class) (key : Key) (method : ℕ) → can_be_entry key ≡ true → method_in class key.0 key.1 ≡ Some method → CanEnter (Some class) method
+pub found_enters : (class : Class) (key : Key) (method : ℕ) → can_be_entry key ≡ true → method_in class key.0 key.1 ≡ Some method → CanEnter (Some class) method
 found_enters class key method fits found = by_place (place_named key.0 key.1 class.methods) refl found
   where
     by_body : (i : ℕ) (body : Option Body) → body_in class i ≡ body → place_named key.0 key.1 class.methods ≡ Some i → option_map (λ (b : Body). i) body ≡ Some method → CanEnter (Some class) method

@@ -14,3 +14,4 @@ pub mod Leading
 pub mod Firsts
 pub mod Subset
 pub mod Begun
+mod Either

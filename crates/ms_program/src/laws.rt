@@ -1,4 +1,4 @@
-ghost use Rattle.std.specs.Prelude.{◌≡◌, ◌↔◌, ◌<◌, All, Err, List, Ok, Some, ℕ};
+ghost use Rattle.std.specs.Prelude.{◌≡◌, ◌↔◌, ◌<◌, ◌⊎◌, All, Err, List, Ok, Some, ℕ};
 ghost use Rattle.ms_words.specs.declared.item.Item.{Item};
 ghost use Rattle.ms_words.specs.declared.item.Item.TheVariants as items;
 ghost use Rattle.ms_pool.specs.declared.code.ClassKind.{ClassKind};
@@ -12,8 +12,11 @@ ghost use Rattle.ms_program.specs.Programs.{IsProgram, Program, body_of};
 ghost use Rattle.ms_program.specs.Reading.{file_read};
 ghost use Rattle.ms_program.specs.Views.{View, view};
 
-use ms_classfile::{class_files_are_read, codes_lie_in_their_file};
-use ms_code::{codes_are_read, decoded_codes_are_whole};
+use ms_classfile::{
+    class_files_are_read, class_files_are_whole_or_have_a_fault, codes_lie_in_their_file,
+    faults_have_places,
+};
+use ms_code::{codes_are_decoded_foreign_or_at_fault, codes_are_read, decoded_codes_are_whole};
 use ms_pool::pools_hold_what_they_name;
 
 /// The law of whole files, of bytes below 256: of which file they are, or which first fault they have, the
@@ -26,6 +29,16 @@ pub fn files_are_read()
     class_files_are_read();
     codes_lie_in_their_file();
     codes_are_read();
+}
+
+/// The law of files, of bytes below 256: they are a file or have a first fault. It does nothing.
+pub fn files_are_whole_or_have_a_fault()
+    ensures { (bytes : List ℕ) → All (λ byte. byte < 256) bytes → ((file : File) × IsFile bytes file) ⊎ ((kind : ClassKind) × (at : ℕ) × IsFirstFault bytes kind at) }
+{
+    class_files_are_whole_or_have_a_fault();
+    faults_have_places();
+    codes_lie_in_their_file();
+    codes_are_decoded_foreign_or_at_fault();
 }
 
 /// The law of views: each item that stands in the view of an item of a program is an instruction, and so has

@@ -3,14 +3,14 @@ ghost use Rattle.std.specs.Option.{option_copied};
 ghost use Rattle.ms_program.specs.declared.program.AddFault.TheVariants.{NoMemory};
 ghost use Rattle.ms_program.specs.Faults.{AddFails, IsLoadFault, RefusesName, ReplaceFails};
 ghost use Rattle.ms_program.specs.Programs.{Adds, IsClass, IsClassOf, IsProgram, Replaces, body_of, body_seen, class_named, known_body, can_be_entry, empty_program, kept_entry, key_of, method_id, method_of, with_class, with_other};
-ghost use Rattle.ms_program.specs.Views.{class_at, entry_part_at, instr_of, is_static_member_op, numbered, numbered_by_name, reference_of, seen, view, whose};
+ghost use Rattle.ms_program.specs.Views.{class_at, entry_part_at, initialiser_first, initialiser_there, instr_of, is_static_member_op, numbered, numbered_by_name, reference_of, seen, view, whose};
 ghost use Rattle.ms_pool.specs.Found.{member_view};
 ghost use Rattle.ms_words.specs.declared.item.Item as Item;
 
 use crate::body::Body;
 use crate::loaded::Loaded;
 use crate::method::{MethodBody, MethodId};
-use crate::view::{View, pool_index};
+use crate::view::{Initialiser, View, initialiser_item_of, initialiser_of, pool_index};
 use ms_classfile::ClassFault;
 use ms_code::Instr;
 use ms_pool::{ClassKind, Member};
@@ -310,6 +310,22 @@ impl Program {
         ensures { option_map (λ class. length class.methods) (slice_get self.now.classes class) ≡ Some result }
     {
         self.classes[usize::from(class)].methods()
+    }
+
+    /// Whether the class of this number has an initialiser, and whether that is foreign. That of an absent
+    /// class is `Absent`.
+    pub fn initialiser(&self, class: u16) -> Initialiser
+        ensures { result ≡ initialiser_there (numbered self.now class) }
+    {
+        initialiser_of(self.numbered(class))
+    }
+
+    /// The first instruction of the initialiser of the class of this number, where it has one that isn't
+    /// foreign.
+    pub fn initialiser_item(&self, class: u16) -> Option<Item>
+        ensures { result ≡ initialiser_first (numbered self.now class) }
+    {
+        initialiser_item_of(self.numbered(class))
     }
 
     /// Sets the entry.

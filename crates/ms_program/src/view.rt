@@ -228,9 +228,7 @@ impl<'a> View<'a> {
                 .program
                 .class_by_name(self.program.reference(self.item)?.class),
         };
-        let (number, class) = class?;
-        let method = class.initialiser_method()?;
-        Some(first_of(number, method))
+        initialiser_item_of(class)
     }
 }
 
@@ -292,13 +290,22 @@ fn int_initial(desc: &[u8], initial: Option<i32>) -> Option<i32>
 }
 
 /// The state of the initialiser of a class, where that is there.
-fn initialiser_of(class: Option<(u16, &Loaded)>) -> Initialiser
+pub(crate) fn initialiser_of(class: Option<(u16, &Loaded)>) -> Initialiser
     ensures { result ≡ views.initialiser_there (option_map views.seen class.entry) }
 {
     match class {
         Some((_, class)) => class.initialiser(),
         None => Initialiser::Absent,
     }
+}
+
+/// The first instruction of the initialiser of a class, where that is there and has one that isn't foreign.
+pub(crate) fn initialiser_item_of(class: Option<(u16, &Loaded)>) -> Option<Item>
+    ensures { result ≡ views.initialiser_first (option_map views.seen class.entry) }
+{
+    let (number, class) = class?;
+    let method = class.initialiser_method()?;
+    Some(first_of(number, method))
 }
 
 /// The first instruction of a method that is named, by its class, where that is there.

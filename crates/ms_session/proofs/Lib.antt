@@ -11,6 +11,7 @@ pub mod Least
 pub mod Reports
 pub mod Writing
 pub mod Called
+pub mod Answered
 pub mod Sessions
 pub mod Determined
 mod Example

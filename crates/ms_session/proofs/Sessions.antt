@@ -28,7 +28,8 @@ use Rattle.ms_session.specs.Known.{Known, explore}
 use Rattle.ms_trie.specs.declared.row.PathRow.{PathRow}
 use Rattle.ms_session.specs.Paths.{report}
 use Rattle.ms_session.specs.States.{State, class_named, is_boolean}
-use Rattle.ms_session.specs.Steps.{entry_next, explore_next, how_far, is_entry, is_unfinished, names_in, names_with, next, once_reply, report_next, reported}
+use Rattle.ms_session.specs.Once.{once_reply}
+use Rattle.ms_session.specs.Steps.{entry_next, explore_next, how_far, is_entry, is_unfinished, names_in, names_with, next, report_next, reported}
 use Rattle.ms_session.specs.Sessions.{FetchCause, IsShort, Leads, Prepared, PrepareStops, Says, Unanswered, classes_in, entry_in, listed, output_text}
 
 -- the entry is the method of the file

@@ -5,6 +5,8 @@ pub mod Known
 pub mod Growing
 pub mod Walking
 pub mod States
+pub mod Faults
+pub mod Once
 pub mod Steps
 pub mod Outside
 pub mod Commands

@@ -1,32 +1,27 @@
 -- What a command does to a session: its reply, the state then, and how often it asks. It is a function of
 -- the state, the command, and the shelf's answers to the names of files in it.
-use Rattle.std.specs.Prelude.{ℕ, List, [], ◌∷◌, ◌++◌, length, Bool, ◌&&◌, not, if◌then◌else◌, Option, Some, None, is_some, codes, ℤ}
+use Rattle.std.specs.Prelude.{ℕ, List, [], ◌∷◌, ◌++◌, length, Bool, ◌&&◌, not, if◌then◌else◌, Option, Some, None, is_some, codes}
 use Rattle.std.specs.List.{list_all}
 use Rattle.std.specs.Str.{bytes_eq}
-use Rattle.ms_words.specs.declared.end.PathEnd.{PathEnd}
-use Rattle.ms_words.specs.Inputs.{are_of}
 use Rattle.ms_outside.specs.Shelves as shelves
 use Rattle.ms_outside.specs.Shelves.{Answer}
 use Rattle.ms_command.specs.declared.command.Command.{Command}
 use Rattle.ms_command.specs.declared.command.Command.TheVariants as commands
 use Rattle.ms_command.specs.declared.reply.Reply.{Reply}
 use Rattle.ms_command.specs.declared.reply.Reply.TheVariants as replies
-use Rattle.ms_command.specs.Endings.{end_text}
 use Rattle.ms_command.specs.Texts.{reply_text}
 use Rattle.ms_trie.specs.declared.row.PathRow.{PathRow}
 use Rattle.ms_report.specs.Rows.{rows_text}
 use Rattle.ms_report.specs.Stops.{totals_of}
 use Rattle.ms_classfile.specs.ThinFile.{Method}
 use Rattle.ms_classfile.specs.Reading.{thin_method}
-use Rattle.ms_pool.specs.declared.code.ClassKind.{ClassKind}
-use Rattle.ms_pool.specs.declared.code.ClassKind.TheVariants as kinds
 use Rattle.ms_program.specs.declared.file.FileFault.{FileFault}
 use Rattle.ms_program.specs.Reading.{first_fault}
 use Rattle.ms_machine.specs.Control.{Program}
-use Rattle.ms_machine.specs.Runs.{end_of}
-use Rattle.ms_jvm.specs.Ends.{path_end_of}
 use Rattle.ms_jvm.specs.Programs.{program_of}
-use Rattle.ms_session.specs.Paths.{input_with, report}
+use Rattle.ms_session.specs.Faults.{fault_reply}
+use Rattle.ms_session.specs.Once.{once_reply}
+use Rattle.ms_session.specs.Paths.{report}
 use Rattle.ms_session.specs.Known.{Explored, Known, explore, first_needing, nothing_known}
 use Rattle.ms_session.specs.States.{State, class_named, entry_name, is_boolean}
 
@@ -40,67 +35,9 @@ pub record Next : Type 0 where
 abbrev pub replied : State → Reply → Next
 replied state reply = record { text = reply_text reply; state = state; asks = 0 }
 
--- the name of a kind of fault
-abbrev pub kind_name : ClassKind → List ℕ
-kind_name kinds.Short = codes "Short"
-kind_name kinds.Magic = codes "Magic"
-kind_name kinds.Version = codes "Version"
-kind_name kinds.Pool = codes "Pool"
-kind_name kinds.Index = codes "Index"
-kind_name kinds.Shape = codes "Shape"
-kind_name kinds.Super = codes "Super"
-kind_name kinds.Duplicate = codes "Duplicate"
-kind_name kinds.Trailing = codes "Trailing"
-kind_name kinds.Cut = codes "Cut"
-kind_name kinds.Target = codes "Target"
-kind_name kinds.Switch = codes "Switch"
-
--- the reply to a file that has this first fault
-abbrev pub fault_reply : FileFault → Reply
-fault_reply fault = replies.ClassFault (kind_name fault.kind) fault.at
-
 -- the names of the classes by their numbers, in the program of one method: that of its class
 abbrev pub names_with : Method → List (List ℕ)
 names_with method = method.class ∷ []
-
--- ---- once FILE NAME DESC WORD..
-
--- whether the method has this name and this descriptor, and the words are one of its kind for each parameter
-abbrev pub is_called_so : Method → List ℕ → List ℕ → List ℤ → Bool
-is_called_so method name desc words = bytes_eq method.name name && bytes_eq method.descriptor desc && are_of method.kinds words
-
--- the most choices of a run of `once`
-abbrev pub once_depth : ℕ
-once_depth = 256
-
--- How the run of the method on these words ends, to that depth: it returns a word or is cut. A run of a
--- thin method has no other end, by the law `thin_methods_end` of the interpreter.
-unfoldable pub once_end : Method → List ℤ → Option PathEnd
-once_end method words = path_end_of (end_of (program_of method) (input_with (program_of method) words) once_depth)
-
--- the reply to a run of the method that ended so
-abbrev pub run_reply : Method → Option PathEnd → Reply
-run_reply method None = replies.NotBuilt
-run_reply method (Some end) = replies.Ran (end_text (names_with method) end)
-
--- the reply where the file has this thin method, or is no thin file, as the grammar of thin files says (`read_thin`)
-abbrev pub method_reply : Option Method → List ℕ → List ℕ → List ℤ → Reply
-method_reply None name desc words = replies.NotBuilt
-method_reply (Some method) name desc words = if is_called_so method name desc words then run_reply method (once_end method words) else replies.NotBuilt
-
--- the reply to a file with this first fault, or, where it has none, that of its method
-abbrev pub file_reply : Option FileFault → Reply → Reply
-file_reply (Some fault) reply = fault_reply fault
-file_reply None reply = reply
-
--- The reply to `once FILE NAME DESC WORD..`, by the shelf's answer to FILE. It is refused with 3 where
--- the file is absent, with 4 where it is too long, and with 5 where it has a fault: of its class, or of a code
--- that is decoded. It is refused with 90 where it has none and isn't thin, where its method has another name or
--- another descriptor, and where the words aren't one of its kind for each parameter.
-abbrev pub once_reply : List ℕ → List ℕ → List ℕ → List ℤ → Answer → Reply
-once_reply file name desc words shelves.Absent = replies.Absent file
-once_reply file name desc words shelves.TooLong = replies.TooLong file
-once_reply file name desc words (shelves.Found bytes) = file_reply (first_fault bytes) (method_reply (thin_method bytes) name desc words)
 
 -- ---- class FILE
 

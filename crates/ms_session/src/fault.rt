@@ -1,5 +1,5 @@
 ghost use Rattle.std.specs.Prelude.{◌≡◌, IfOk};
-ghost use Rattle.ms_session.specs.Steps as steps;
+ghost use Rattle.ms_session.specs.Faults as faults;
 
 use ms_command::Reply;
 use ms_pool::ClassKind;
@@ -9,7 +9,7 @@ use std::alloc::Global;
 
 /// The name of a kind of fault.
 fn kind_name(kind: ClassKind) -> &'static [u8]
-    ensures { result.now ≡ steps.kind_name kind }
+    ensures { result.now ≡ faults.kind_name kind }
 {
     match kind {
         ClassKind::Short => b"Short",
@@ -29,7 +29,7 @@ fn kind_name(kind: ClassKind) -> &'static [u8]
 
 /// The reply to a file that has this first fault.
 pub fn fault_reply(alloc: Global, fault: FileFault) -> Result<Reply, NoMemory>
-    ensures { IfOk result (λ reply. reply ≡ steps.fault_reply fault) }
+    ensures { IfOk result (λ reply. reply ≡ faults.fault_reply fault) }
 {
     let kind = Name::of(alloc, kind_name(fault.kind))?;
     Ok(Reply::ClassFault { kind, at: fault.at })

@@ -13,18 +13,18 @@ ghost use Rattle.ms_session.specs.Paths.{first_of};
 ghost use Rattle.ms_session.specs.States as states;
 ghost use Rattle.ms_session.specs.States.{class_named, new_state};
 ghost use Rattle.ms_session.specs.Steps as steps;
-ghost use Rattle.ms_session.specs.Steps.{method_reply};
 ghost use Rattle.ms_program.specs.Reading.{first_fault};
 
-use crate::calling::{call, one_name};
 use crate::entry::{explore_entry, report_entry};
 use crate::fault::fault_reply;
 use crate::fetching::{Fetched, ask};
 use crate::known::Known;
+use crate::names::one_name;
+use crate::once::once;
 use crate::output::{Output, write_output};
 use crate::stop::Stop;
 use ms_classfile::{ThinMethod, read_thin};
-use ms_command::{Command, Reply, Words};
+use ms_command::{Command, Reply};
 use ms_outside::{Shelf, Sink};
 use ms_program::first_fault;
 use ms_words::{Kind, Kinds, Name, NoMemory};
@@ -297,46 +297,6 @@ fn kept(output: Result<Output, NoMemory>) -> Result<Output, Stop>
     match output {
         Ok(output) => Ok(output),
         Err(_) => Err(Stop::NoMemory),
-    }
-}
-
-/// The reply to `once`, by what the shelf answered.
-fn once(
-    alloc: Global,
-    file: &Name,
-    name: &Name,
-    desc: &Name,
-    words: &Words,
-    found: Fetched,
-) -> Result<Reply, NoMemory>
-    ensures { IfOk result (λ reply. reply ≡ steps.once_reply file.now name.now desc.now words.now (answer_in found)) }
-{
-    match found {
-        Fetched::Absent => {
-            let file = Name::of(alloc, file.bytes())?;
-            Ok(Reply::Absent { file })
-        }
-        Fetched::TooLong => {
-            let file = Name::of(alloc, file.bytes())?;
-            Ok(Reply::TooLong { file })
-        }
-        Fetched::Bytes(bytes) => once_in(alloc, bytes.as_slice(), name, desc, words),
-    }
-}
-
-/// The reply to `once` on a file of these bytes.
-fn once_in(
-    alloc: Global,
-    bytes: &[u8],
-    name: &Name,
-    desc: &Name,
-    words: &Words,
-) -> Result<Reply, NoMemory>
-    ensures { IfOk result (λ reply. reply ≡ steps.file_reply (first_fault bytes.now) (method_reply (thin_method bytes.now) name.now desc.now words.now)) }
-{
-    match first_fault(alloc, bytes)? {
-        Some(fault) => fault_reply(alloc, fault),
-        None => call(alloc, bytes, name.bytes(), desc.bytes(), words.get()),
     }
 }
 

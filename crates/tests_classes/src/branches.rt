@@ -2,18 +2,28 @@
 //! a method takes. The expected choices were worked out by hand: at a test that a parameter entered, 0
 //! where it falls through and 1 where it branches.
 
-use crate::running::{NOT_BUILT, check};
+use crate::running::{ENTRY_MISSING, WORDS_REFUSED, check};
 use ms_classfile::read_thin;
 use ms_command::end_text;
-use ms_jvm::{path_of, run};
+use ms_jvm::path_of;
 use ms_words::Input;
 use std::alloc::{AllocError, Global};
+use std::fmt::Write;
 use std::process::Abort;
 use std::test::Fail;
 use tests_devices::{line_for, thin};
 
-/// That the path of these words to this depth, at most 256, has these choices and this end, and that the
-/// run has as many and the same end. The method has eight locals and a stack of four.
+/// Words as a line has them, each behind a space.
+fn words_text(alloc: Global, words: &[i32]) -> Result<String, AllocError> {
+    let mut text = String::new(alloc);
+    for word in words {
+        write!(text, " {word}")?;
+    }
+    Ok(text)
+}
+
+/// That the path of these words to this depth, at most 256, has these choices and this end, and that `once`
+/// gives the same end, if the depth is its own. The method has eight locals and a stack of four.
 fn check_path(
     rt: &(impl Abort + AllocGlobal),
     descriptor: &str,
@@ -43,18 +53,21 @@ fn check_path(
         end.as_bytes(),
         "{code:?} at {words:?} to {depth}"
     );
-    let ran = run(rt.alloc(), &method, &input, depth)?;
-    assert_eq!(rt;
-        usize::from(ran.arms),
-        arms.len(),
-        "{code:?} at {words:?} to {depth}"
-    );
-    let text = end_text(rt.alloc(), &[], &ran.end)?;
-    assert_eq!(rt;
-        text.bytes(),
-        end.as_bytes(),
-        "{code:?} at {words:?} to {depth}"
-    );
+    if depth == 256 {
+        let line = line_for(
+            rt.alloc(),
+            descriptor,
+            words_text(rt.alloc(), words)?.as_str(),
+        )?;
+        let want = format!(in rt.alloc(); "ok {end}\n")?;
+        check(
+            rt,
+            line.as_str(),
+            file.as_slice(),
+            line.as_bytes(),
+            want.as_str(),
+        )?;
+    }
     Ok(())
 }
 
@@ -405,23 +418,23 @@ fn once_has_at_most_256_choices(rt: HostRuntime) -> Result<(), Fail> {
 static WORDS: [(&str, &str, &str); 19] = [
     ("(Z)I", " 0", "ok returns 0\n"),
     ("(Z)I", " 1", "ok returns 1\n"),
-    ("(Z)I", " 2", NOT_BUILT),
-    ("(Z)I", " -1", NOT_BUILT),
-    ("(Z)I", " 2147483647", NOT_BUILT),
+    ("(Z)I", " 2", WORDS_REFUSED),
+    ("(Z)I", " -1", WORDS_REFUSED),
+    ("(Z)I", " 2147483647", WORDS_REFUSED),
     ("(Z)I", " 2147483648", "refused 13 Range\n"),
-    ("(Z)I", "", NOT_BUILT),
-    ("(Z)I", " 0 0", NOT_BUILT),
+    ("(Z)I", "", WORDS_REFUSED),
+    ("(Z)I", " 0 0", WORDS_REFUSED),
     ("(ZZ)I", " 1 1", "ok returns 1\n"),
-    ("(ZZ)I", " 1 2", NOT_BUILT),
-    ("(ZZ)I", " 2 1", NOT_BUILT),
+    ("(ZZ)I", " 1 2", WORDS_REFUSED),
+    ("(ZZ)I", " 2 1", WORDS_REFUSED),
     ("(IZ)I", " 2 1", "ok returns 2\n"),
-    ("(IZ)I", " 1 2", NOT_BUILT),
-    ("(IZ)I", " 1 -1", NOT_BUILT),
+    ("(IZ)I", " 1 2", WORDS_REFUSED),
+    ("(IZ)I", " 1 -1", WORDS_REFUSED),
     ("(ZI)I", " 1 -2147483648", "ok returns 1\n"),
-    ("(ZI)I", " -1 1", NOT_BUILT),
+    ("(ZI)I", " -1 1", WORDS_REFUSED),
     ("(I)Z", " 2", "ok returns 2\n"),
     ("(ZZZZZZZZ)Z", " 1 0 0 0 0 0 0 1", "ok returns 1\n"),
-    ("(ZZZZZZZZ)Z", " 1 0 0 0 0 0 0 2", NOT_BUILT),
+    ("(ZZZZZZZZ)Z", " 1 0 0 0 0 0 0 2", WORDS_REFUSED),
 ];
 
 #[test]
@@ -434,7 +447,7 @@ fn words_are_of_their_kinds(rt: HostRuntime) -> Result<(), Fail> {
     Ok(())
 }
 
-/// Code of a method of (I)I that is thin, and the reply at the word 1. It has a stack of three.
+/// Code of a method of (I)I that branches ahead, and the reply at the word 1. It has a stack of three.
 static CODES: [(&[u8], &str); 8] = [
     // iload_0, ifeq 6, iconst_0, ireturn, 6: iconst_1, ireturn
     (b"\x1a\x99\x00\x05\x03\xac\x04\xac", "ok returns 0\n"),
@@ -456,19 +469,23 @@ static CODES: [(&[u8], &str); 8] = [
     (b"\x15\x00\xac", "ok returns 1\n"),
 ];
 
-/// What is wrong in code of the same method that isn't thin, and the reply. The code has the place 91.
-static NO_CODES: [(&str, &[u8], &str); 30] = [
+/// Other code of the same method, and the reply at the word 1. The code has the place 91.
+static OTHER_CODES: [(&str, &[u8], &str); 30] = [
     (
         "back to the start",
         b"\x1a\x99\xff\xff\x03\xac\x04\xac",
-        NOT_BUILT,
+        "ok returns 0\n",
     ),
     (
         "far back",
         b"\x1a\x99\x80\x00\x03\xac\x04\xac",
         "refused 5 Class Target 92\n",
     ),
-    ("to itself", b"\x1a\x99\x00\x00\x03\xac\x04\xac", NOT_BUILT),
+    (
+        "to itself",
+        b"\x1a\x99\x00\x00\x03\xac\x04\xac",
+        "refused 6 Verify Merge f(I)I 1\n",
+    ),
     (
         "into itself",
         b"\x1a\x99\x00\x02\x03\xac\x04\xac",
@@ -487,7 +504,7 @@ static NO_CODES: [(&str, &[u8], &str); 30] = [
     (
         "to a stack of one",
         b"\x1a\x99\x00\x06\x03\xac\x04\xac",
-        NOT_BUILT,
+        "refused 6 Verify Depth f(I)I 7\n",
     ),
     (
         "into a push",
@@ -507,40 +524,44 @@ static NO_CODES: [(&str, &[u8], &str); 30] = [
     (
         "back to another's target",
         b"\x1a\x99\x00\x05\x03\xac\x1a\x99\xff\xff\x04\xac",
-        NOT_BUILT,
+        "ok returns 0\n",
     ),
     (
         "one of two words tested",
         b"\x1a\x1a\x99\x00\x04\xac\x04\xac",
-        NOT_BUILT,
+        "ok returns 1\n",
     ),
     (
         "two of three words tested",
         b"\x1a\x1a\x1a\x9f\x00\x04\xac\x04\xac",
-        NOT_BUILT,
+        "ok returns 1\n",
     ),
     (
         "no word to test",
         b"\x99\x00\x05\x03\xac\x04\xac",
-        NOT_BUILT,
+        "refused 6 Verify Depth f(I)I 0\n",
     ),
     (
         "one word to test for two",
         b"\x1a\x9f\x00\x05\x03\xac\x04\xac",
-        NOT_BUILT,
+        "refused 6 Verify Depth f(I)I 1\n",
     ),
     // iload_0 four times, isub, isub, if_icmpeq 11, iconst_0, ireturn, 11: iconst_1, ireturn
     (
         "a stack of four",
         b"\x1a\x1a\x1a\x1a\x64\x64\x9f\x00\x05\x03\xac\x04\xac",
-        NOT_BUILT,
+        "refused 6 Verify Depth f(I)I 3\n",
     ),
-    ("one of two words returned", b"\x1a\x1a\xac\xac", NOT_BUILT),
-    ("a load at the end", b"\x1a\xac\x1a", NOT_BUILT),
+    (
+        "one of two words returned",
+        b"\x1a\x1a\xac\xac",
+        "ok returns 1\n",
+    ),
+    ("a load at the end", b"\x1a\xac\x1a", "ok returns 1\n"),
     (
         "a push at the end",
         b"\x1a\x99\x00\x05\x03\xac\x04",
-        NOT_BUILT,
+        "refused 6 Verify FallOff f(I)I 6\n",
     ),
     (
         "a branch that is cut",
@@ -561,23 +582,39 @@ static NO_CODES: [(&str, &[u8], &str); 30] = [
     (
         "opcode 165",
         b"\x1a\x1a\xa5\x00\x05\x03\xac\x04\xac",
-        NOT_BUILT,
+        "refused 6 Verify Kind f(I)I 2\n",
     ),
     (
         "opcode 166",
         b"\x1a\x1a\xa6\x00\x05\x03\xac\x04\xac",
-        NOT_BUILT,
+        "refused 6 Verify Kind f(I)I 2\n",
     ),
-    ("opcode 167", b"\xa7\x00\x03\x1a\xac", NOT_BUILT),
-    ("opcode 198", b"\x1a\xc6\x00\x05\x03\xac\x04\xac", NOT_BUILT),
-    ("opcode 152", b"\x1a\x1a\x98\xac", NOT_BUILT),
-    ("a local that is no parameter", b"\x15\x01\xac", NOT_BUILT),
-    ("the last local", b"\x15\xff\xac", NOT_BUILT),
-    ("a local behind a return", b"\x1a\xac\x1b\xac", NOT_BUILT),
+    ("opcode 167", b"\xa7\x00\x03\x1a\xac", "ok returns 1\n"),
+    (
+        "opcode 198",
+        b"\x1a\xc6\x00\x05\x03\xac\x04\xac",
+        "refused 6 Verify Kind f(I)I 1\n",
+    ),
+    ("opcode 152", b"\x1a\x1a\x98\xac", ENTRY_MISSING),
+    (
+        "a local that is no parameter",
+        b"\x15\x01\xac",
+        "refused 6 Verify Local f(I)I 0\n",
+    ),
+    (
+        "the last local",
+        b"\x15\xff\xac",
+        "refused 6 Verify Local f(I)I 0\n",
+    ),
+    (
+        "a local behind a return",
+        b"\x1a\xac\x1b\xac",
+        "ok returns 1\n",
+    ),
 ];
 
 #[test]
-fn branches_of_thin_code_lead_ahead(rt: HostRuntime) -> Result<(), Fail> {
+fn branches_lead_to_instructions(rt: HostRuntime) -> Result<(), Fail> {
     for (code, want) in &CODES {
         let file = thin(rt.alloc(), b"(I)I", 3, 256, code)?;
         let what = format!(in rt.alloc(); "{code:?}")?;
@@ -589,7 +626,7 @@ fn branches_of_thin_code_lead_ahead(rt: HostRuntime) -> Result<(), Fail> {
             want,
         )?;
     }
-    for (what, code, want) in &NO_CODES {
+    for (what, code, want) in &OTHER_CODES {
         let file = thin(rt.alloc(), b"(I)I", 3, 256, code)?;
         check(&rt, what, file.as_slice(), b"once T.class f (I)I 1", want)?;
     }
@@ -611,36 +648,42 @@ static SIGNATURES: [(&str, usize, &[u8], &str, &str); 20] = [
         7,
         b"\x15\x06\xac",
         " 1 2 3 4 5 6 7 8",
-        NOT_BUILT,
+        ENTRY_MISSING,
     ),
     (
         "(IIIIIIIII)I",
         9,
         b"\x15\x07\xac",
         " 1 2 3 4 5 6 7 8 9",
-        NOT_BUILT,
+        ENTRY_MISSING,
     ),
     ("(Z)I", 1, b"\x1a\xac", " 1", "ok returns 1\n"),
-    ("(B)I", 1, b"\x1a\xac", " 1", NOT_BUILT),
-    ("(C)I", 1, b"\x1a\xac", " 1", NOT_BUILT),
-    ("(S)I", 1, b"\x1a\xac", " 1", NOT_BUILT),
-    ("(F)I", 1, b"\x03\xac", " 1", NOT_BUILT),
-    ("(J)I", 2, b"\x03\xac", " 1", NOT_BUILT),
-    ("([I)I", 1, b"\x03\xac", " 1", NOT_BUILT),
-    ("(I[I)I", 2, b"\x1a\xac", " 1 2", NOT_BUILT),
+    ("(B)I", 1, b"\x1a\xac", " 1", "ok returns 1\n"),
+    ("(C)I", 1, b"\x1a\xac", " 1", "ok returns 1\n"),
+    ("(S)I", 1, b"\x1a\xac", " 1", "ok returns 1\n"),
+    ("(F)I", 1, b"\x03\xac", " 1", ENTRY_MISSING),
+    ("(J)I", 2, b"\x03\xac", " 1", ENTRY_MISSING),
+    ("([I)I", 1, b"\x03\xac", " 1", ENTRY_MISSING),
+    ("(I[I)I", 2, b"\x1a\xac", " 1 2", ENTRY_MISSING),
     ("(I)Z", 1, b"\x1a\xac", " 1", "ok returns 1\n"),
-    ("(I)V", 1, b"\x1a\xac", " 1", NOT_BUILT),
-    ("(I)B", 1, b"\x1a\xac", " 1", NOT_BUILT),
-    ("(I)C", 1, b"\x1a\xac", " 1", NOT_BUILT),
-    ("(I)S", 1, b"\x1a\xac", " 1", NOT_BUILT),
-    ("(I)J", 1, b"\x1a\xac", " 1", NOT_BUILT),
-    ("(I)", 1, b"\x1a\xac", " 1", NOT_BUILT),
-    ("(I)ZZ", 1, b"\x1a\xac", " 1", NOT_BUILT),
-    ("(II", 2, b"\x1a\xac", " 1 1", NOT_BUILT),
+    (
+        "(I)V",
+        1,
+        b"\x1a\xac",
+        " 1",
+        "refused 6 Verify Return f(I)V 1\n",
+    ),
+    ("(I)B", 1, b"\x1a\xac", " 1", "ok returns 1\n"),
+    ("(I)C", 1, b"\x1a\xac", " 1", "ok returns 1\n"),
+    ("(I)S", 1, b"\x1a\xac", " 1", "ok returns 1\n"),
+    ("(I)J", 1, b"\x1a\xac", " 1", ENTRY_MISSING),
+    ("(I)", 1, b"\x1a\xac", " 1", ENTRY_MISSING),
+    ("(I)ZZ", 1, b"\x1a\xac", " 1", ENTRY_MISSING),
+    ("(II", 2, b"\x1a\xac", " 1 1", ENTRY_MISSING),
 ];
 
 #[test]
-fn thin_methods_have_parameters_of_two_kinds(rt: HostRuntime) -> Result<(), Fail> {
+fn entries_have_at_most_eight_ints(rt: HostRuntime) -> Result<(), Fail> {
     for (descriptor, max_locals, code, words, want) in &SIGNATURES {
         let file = thin(rt.alloc(), descriptor.as_bytes(), 1, *max_locals, code)?;
         let line = line_for(rt.alloc(), descriptor, words)?;

@@ -1,7 +1,7 @@
 //! Class files: which of them are thin, and what the first fault of the others is.
 //! The expected faults were worked out by hand, each the first in reading order, with its place.
 
-use crate::running::{BOTH, NOT_BUILT, check, check_refused};
+use crate::running::{BOTH, ENTRY_MISSING, check, check_other};
 use std::alloc::{AllocError, Global};
 use std::test::Fail;
 use tests_devices::{ADDS, Change, changed, lengthened};
@@ -103,7 +103,7 @@ pub const TWO_METHODS: Change = (68, 2, b"\x00\x02");
 /// The last instruction of its code is a push without its byte.
 pub const CUT: Change = (95, 1, b"\x10");
 
-/// What is changed in the worked file where it is thin no more, and the reply: its frame, its pool and its
+/// What is changed in the worked file where it is thin no more, and the reply of `once`: its frame, its pool and its
 /// class.
 static NO_CLASS: [(&str, &[Change], &str); 41] = [
     (
@@ -169,12 +169,12 @@ static NO_CLASS: [(&str, &[Change], &str); 41] = [
     (
         "an int",
         &[(8, 2, b"\x00\x09"), (58, 0, b"\x03\x00\x00\x00\x01")],
-        NOT_BUILT,
+        SUM,
     ),
     (
         "a float",
         &[(8, 2, b"\x00\x09"), (58, 0, b"\x04\x00\x00\x00\x01")],
-        NOT_BUILT,
+        SUM,
     ),
     (
         "a long",
@@ -182,12 +182,12 @@ static NO_CLASS: [(&str, &[Change], &str); 41] = [
             (8, 2, b"\x00\x0a"),
             (58, 0, b"\x05\x00\x00\x00\x00\x00\x00\x00\x01"),
         ],
-        NOT_BUILT,
+        SUM,
     ),
     (
         "a string",
         &[(8, 2, b"\x00\x09"), (58, 0, b"\x08\x00\x01")],
-        NOT_BUILT,
+        SUM,
     ),
     (
         "a field of a class",
@@ -202,7 +202,7 @@ static NO_CLASS: [(&str, &[Change], &str); 41] = [
     (
         "a name and a type",
         &[(8, 2, b"\x00\x09"), (58, 0, b"\x0c\x00\x05\x00\x06")],
-        NOT_BUILT,
+        SUM,
     ),
     (
         "a class named by a class",
@@ -254,11 +254,11 @@ static NO_CLASS: [(&str, &[Change], &str); 41] = [
         &[(35, 1, b"T")],
         "refused 5 Class Super 62\n",
     ),
-    ("an interface", &[(64, 2, b"\x00\x01\x00\x02")], NOT_BUILT),
+    ("an interface", &[(64, 2, b"\x00\x01\x00\x02")], SUM),
     (
         "a field",
         &[(66, 2, b"\x00\x01\x00\x09\x00\x05\x00\x06\x00\x00")],
-        NOT_BUILT,
+        SUM,
     ),
     (
         "a field twice",
@@ -269,14 +269,14 @@ static NO_CLASS: [(&str, &[Change], &str); 41] = [
         )],
         "refused 5 Class Duplicate 76\n",
     ),
-    ("no method", &[(68, 32, b"\x00\x00")], NOT_BUILT),
+    ("no method", &[(68, 32, b"\x00\x00")], ENTRY_MISSING),
     (
         "a second method",
         &[
             (68, 2, b"\x00\x02"),
             (100, 0, b"\x01\x09\x00\x01\x00\x06\x00\x00"),
         ],
-        NOT_BUILT,
+        SUM,
     ),
     (
         "the method twice",
@@ -320,11 +320,15 @@ static NO_METHOD: [(&str, &[Change], &str); 44] = [
     (
         "a method that isn't static",
         &[(70, 2, b"\x00\x01")],
-        NOT_BUILT,
+        ENTRY_MISSING,
     ),
-    ("a native method", &[(70, 2, b"\x01\x09")], NOT_BUILT),
-    ("an abstract method", &[(70, 2, b"\x04\x09")], NOT_BUILT),
-    ("a synchronized method", &[(70, 2, b"\x00\x29")], NOT_BUILT),
+    ("a native method", &[(70, 2, b"\x01\x09")], ENTRY_MISSING),
+    ("an abstract method", &[(70, 2, b"\x04\x09")], ENTRY_MISSING),
+    (
+        "a synchronized method",
+        &[(70, 2, b"\x00\x29")],
+        ENTRY_MISSING,
+    ),
     (
         "a name that is a class",
         &[(72, 2, b"\x00\x04")],
@@ -345,14 +349,18 @@ static NO_METHOD: [(&str, &[Change], &str); 44] = [
         &[(74, 2, b"\x00\x08")],
         "refused 5 Class Index 74\n",
     ),
-    ("no attribute", &[(76, 24, b"\x00\x00")], NOT_BUILT),
-    ("a Code by another name", &[(78, 2, b"\x00\x05")], NOT_BUILT),
+    ("no attribute", &[(76, 24, b"\x00\x00")], ENTRY_MISSING),
+    (
+        "a Code by another name",
+        &[(78, 2, b"\x00\x05")],
+        ENTRY_MISSING,
+    ),
     (
         "a Code named by a class",
         &[(78, 2, b"\x00\x04")],
         "refused 5 Class Index 78\n",
     ),
-    ("a name like Code", &[(57, 1, b"d")], NOT_BUILT),
+    ("a name like Code", &[(57, 1, b"d")], ENTRY_MISSING),
     (
         "two Codes",
         &[
@@ -393,19 +401,23 @@ static NO_METHOD: [(&str, &[Change], &str); 44] = [
     (
         "a stack that is too high",
         &[(84, 2, b"\x01\x01")],
-        NOT_BUILT,
+        ENTRY_MISSING,
     ),
     (
         "a stack that is too low",
         &[(84, 2, b"\x00\x01")],
-        NOT_BUILT,
+        "refused 6 Verify Depth f(II)I 1\n",
     ),
-    ("no stack", &[(84, 2, b"\x00\x00")], NOT_BUILT),
-    ("too many locals", &[(86, 2, b"\x01\x01")], NOT_BUILT),
+    (
+        "no stack",
+        &[(84, 2, b"\x00\x00")],
+        "refused 6 Verify Depth f(II)I 0\n",
+    ),
+    ("too many locals", &[(86, 2, b"\x01\x01")], ENTRY_MISSING),
     (
         "fewer locals than parameters",
         &[(86, 2, b"\x00\x01")],
-        NOT_BUILT,
+        ENTRY_MISSING,
     ),
     (
         "code that is cut",
@@ -423,7 +435,7 @@ static NO_METHOD: [(&str, &[Change], &str); 44] = [
             (80, 4, b"\x00\x00\x00\x18"),
             (96, 2, b"\x00\x01\x00\x00\x00\x01\x00\x02\x00\x00"),
         ],
-        NOT_BUILT,
+        "refused 6 Verify Merge f(II)I 2\n",
     ),
     (
         "an attribute of the Code that isn't there",
@@ -449,60 +461,72 @@ static NO_METHOD: [(&str, &[Change], &str); 44] = [
     (
         "the third parameter of two",
         &[(92, 4, b"\x1a\x1c\x60\xac")],
-        NOT_BUILT,
+        "refused 6 Verify Local f(II)I 1\n",
     ),
     (
         "the fourth parameter of two",
         &[(92, 4, b"\x1d\x1b\x60\xac")],
-        NOT_BUILT,
+        "refused 6 Verify Local f(II)I 0\n",
     ),
     (
         "a load of a long",
         &[(92, 4, b"\x1a\x1e\x60\xac")],
-        NOT_BUILT,
+        ENTRY_MISSING,
     ),
     (
         "an instruction that does nothing",
         &[(84, 2, b"\x00\x03"), (92, 4, b"\x00\x1a\xac\x00")],
-        NOT_BUILT,
+        "ok returns 5\n",
     ),
     (
         "a multiplication",
         &[(92, 4, b"\x1a\x1b\x68\xac")],
-        NOT_BUILT,
+        "ok returns 15\n",
     ),
-    ("a negation", &[(92, 4, b"\x03\x1a\x74\xac")], NOT_BUILT),
-    ("a null", &[(92, 4, b"\x01\x1b\x60\xac")], NOT_BUILT),
+    (
+        "a negation",
+        &[(92, 4, b"\x03\x1a\x74\xac")],
+        "ok returns -5\n",
+    ),
+    (
+        "a null",
+        &[(92, 4, b"\x01\x1b\x60\xac")],
+        "refused 6 Verify Kind f(II)I 2\n",
+    ),
     (
         "a long constant",
         &[(92, 4, b"\x09\x1b\x60\xac")],
-        NOT_BUILT,
+        ENTRY_MISSING,
     ),
     (
         "a return of a long",
         &[(92, 4, b"\x1a\x1b\x60\xad")],
-        NOT_BUILT,
+        ENTRY_MISSING,
     ),
     (
         "a sum of one operand",
         &[(92, 4, b"\x1a\x60\x1b\xac")],
-        NOT_BUILT,
+        "refused 6 Verify Depth f(II)I 1\n",
     ),
     (
         "a difference of one operand",
         &[(92, 4, b"\x1a\x64\x1b\xac")],
-        NOT_BUILT,
+        "refused 6 Verify Depth f(II)I 1\n",
     ),
-    ("no return", &[(92, 4, b"\x1a\x1b\x60\x1b")], NOT_BUILT),
+    (
+        "no return",
+        &[(92, 4, b"\x1a\x1b\x60\x1b")],
+        "refused 6 Verify FallOff f(II)I 3\n",
+    ),
     (
         "a return of two words",
         &[(84, 2, b"\x00\x03"), (92, 4, b"\x1a\x1b\x1a\xac")],
-        NOT_BUILT,
+        "ok returns 5\n",
     ),
     (
         "a return of no word",
         &[(92, 4, b"\xac\x1a\x1b\xac")],
-        NOT_BUILT,
+        "refused 6 Verify Depth f(II)I 0\n",
     ),
     (
         "a byte to push that isn't there",
@@ -512,14 +536,14 @@ static NO_METHOD: [(&str, &[Change], &str); 44] = [
 ];
 
 #[test]
-fn thin_files_run_and_others_are_refused(rt: HostRuntime) -> Result<(), Fail> {
+fn thin_files_and_others_have_their_replies(rt: HostRuntime) -> Result<(), Fail> {
     for (what, changes) in &THIN {
         let file = changed(rt.alloc(), changes)?;
         check(&rt, what, file.as_slice(), LINE, SUM)?;
     }
-    for (what, changes, refusal) in NO_CLASS.iter().chain(NO_METHOD.iter()) {
+    for (what, changes, reply) in NO_CLASS.iter().chain(NO_METHOD.iter()) {
         let file = changed(rt.alloc(), changes)?;
-        check_refused(&rt, what, file.as_slice(), refusal)?;
+        check_other(&rt, what, file.as_slice(), reply)?;
     }
     Ok(())
 }
@@ -539,14 +563,14 @@ fn a_file_that_is_cut_is_short_where_the_cut_part_begins(rt: HostRuntime) -> Res
             at = size;
         }
         let refusal = format!(in rt.alloc(); "refused 5 Class Short {at}\n")?;
-        check_refused(&rt, "a cut file", &ADDS[..size], refusal.as_str())?;
+        check_other(&rt, "a cut file", &ADDS[..size], refusal.as_str())?;
     }
     Ok(())
 }
 
 /// What is changed in the worked file, what is typed, and what is written: which refusal comes first.
-static ORDER: [(&[Change], &str, &str); 16] = [
-    // The line, the file, its fault, and then the words.
+static ORDER: [(&[Change], &str, &str); 20] = [
+    // The line, the file, its fault, the type rules, the method, and then the words.
     (&[CUT], "once T.class f (II)I x 3", "refused 2 Command\n"),
     (
         &[CUT],
@@ -579,6 +603,18 @@ static ORDER: [(&[Change], &str, &str); 16] = [
         "once U.class g (ZZ)I 5",
         "refused 3 Absent U.class\n",
     ),
+    (
+        &[(84, 2, b"\x00\x01")],
+        "once T.class g (II)I 5 3",
+        "refused 6 Verify Depth f(II)I 1\n",
+    ),
+    (
+        &[(84, 2, b"\x00\x01")],
+        "once T.class f (II)I 5",
+        "refused 6 Verify Depth f(II)I 1\n",
+    ),
+    (&[], "once T.class g (II)I 5", "refused 11 EntryMissing\n"),
+    (&[], "once T.class f (II)I 5", "refused 16 Words\n"),
     (&[CUT], "class U.class", "refused 3 Absent U.class\n"),
     // A fault, and then the class that is present, of another name or of the same.
     (
@@ -659,7 +695,7 @@ fn a_class_is_no_throwable(rt: HostRuntime) -> Result<(), Fail> {
     for (name, at) in &THROWABLES {
         let file = named(rt.alloc(), name)?;
         let refusal = format!(in rt.alloc(); "refused 5 Class Super {at}\n")?;
-        check_refused(&rt, name, file.as_slice(), refusal.as_str())?;
+        check_other(&rt, name, file.as_slice(), refusal.as_str())?;
     }
     for name in [
         "java/lang/ClassCastException",

@@ -1,8 +1,8 @@
-//! The code of class files: its first fault where it is looked at, and what thin code returns. The expected
+//! The code of class files: its first fault where it is looked at, and what code returns. The expected
 //! faults were worked out by hand, each with its place.
 
 use crate::classes::{CUT, TWO_METHODS};
-use crate::running::{NOT_BUILT, check, check_refused};
+use crate::running::{ENTRY_MISSING, check, check_other};
 use std::alloc::{AllocError, Global};
 use std::test::Fail;
 use tests_devices::{Change, changed, line_for, thin};
@@ -85,14 +85,14 @@ static NO_CODE: [(&str, &[Change], &str); 30] = [
     (
         "a branch behind the code, and then a foreign opcode",
         &[(92, 4, b"\x99\x00\x04\xba")],
-        NOT_BUILT,
+        ENTRY_MISSING,
     ),
     // A foreign method has no fault, and hides none of another method.
-    ("a foreign opcode", &[(92, 1, b"\xba")], NOT_BUILT),
+    ("a foreign opcode", &[(92, 1, b"\xba")], ENTRY_MISSING),
     (
         "a foreign opcode, and then a push that is cut",
         &[(92, 1, b"\xba"), CUT],
-        NOT_BUILT,
+        ENTRY_MISSING,
     ),
     (
         "a push that is cut behind a foreign method",
@@ -129,65 +129,65 @@ static NO_CODE: [(&str, &[Change], &str); 30] = [
     (
         "a push that is cut, not static",
         &[(70, 2, b"\x00\x01"), CUT],
-        NOT_BUILT,
+        ENTRY_MISSING,
     ),
     (
         "a push that is cut, native",
         &[(70, 2, b"\x01\x09"), CUT],
-        NOT_BUILT,
+        ENTRY_MISSING,
     ),
     (
         "a push that is cut, abstract",
         &[(70, 2, b"\x04\x09"), CUT],
-        NOT_BUILT,
+        ENTRY_MISSING,
     ),
     (
         "a push that is cut, synchronized",
         &[(70, 2, b"\x00\x29"), CUT],
-        NOT_BUILT,
+        ENTRY_MISSING,
     ),
     (
         "a push that is cut, and a stack that is too high",
         &[(84, 2, b"\x01\x01"), CUT],
-        NOT_BUILT,
+        ENTRY_MISSING,
     ),
     (
         "a push that is cut, and too many locals",
         &[(86, 2, b"\x01\x01"), CUT],
-        NOT_BUILT,
+        ENTRY_MISSING,
     ),
     (
         "a push that is cut, and fewer locals than parameters",
         &[(86, 2, b"\x00\x01"), CUT],
-        NOT_BUILT,
+        ENTRY_MISSING,
     ),
     (
         "a push that is cut, and a long to take",
         &[(46, 5, b"(JI)I"), CUT],
-        NOT_BUILT,
+        ENTRY_MISSING,
     ),
     (
         "a push that is cut, and a long to return",
         &[(46, 5, b"(II)J"), CUT],
-        NOT_BUILT,
+        ENTRY_MISSING,
     ),
     (
         "a push that is cut, and a parameter of no type",
         &[(46, 5, b"(VI)I"), CUT],
-        NOT_BUILT,
+        ENTRY_MISSING,
     ),
     (
         "a push that is cut, and no descriptor of a method",
         &[(46, 5, b"III)I"), CUT],
-        NOT_BUILT,
+        ENTRY_MISSING,
     ),
 ];
 
 #[test]
 fn codes_at_fault_are_refused_where_they_are_looked_at(rt: HostRuntime) -> Result<(), Fail> {
-    for (what, changes, refusal) in &NO_CODE {
+    for (what, changes, reply) in &NO_CODE {
         let file = changed(rt.alloc(), changes)?;
-        check_refused(&rt, what, file.as_slice(), refusal)?;
+        check_other(&rt, what, file.as_slice(), reply)?;
     }
     Ok(())
 }
@@ -261,9 +261,23 @@ static CODES: [(&str, usize, usize, &[u8], &str, &str); 37] = [
         " -2147483648",
         "ok returns -2147483648\n",
     ),
-    ("(I)I", 1, 1, b"\x1b\xac", " 1", NOT_BUILT),
-    ("(I)I", 1, 0, b"\x1a\xac", " 1", NOT_BUILT),
-    ("(I)I", 1, 2, b"\x1b\xac", " 1", NOT_BUILT),
+    (
+        "(I)I",
+        1,
+        1,
+        b"\x1b\xac",
+        " 1",
+        "refused 6 Verify Local f(I)I 0\n",
+    ),
+    ("(I)I", 1, 0, b"\x1a\xac", " 1", ENTRY_MISSING),
+    (
+        "(I)I",
+        1,
+        2,
+        b"\x1b\xac",
+        " 1",
+        "refused 6 Verify Local f(I)I 0\n",
+    ),
     ("()I", 1, 0, b"\x02\xac", "", "ok returns -1\n"),
     ("()I", 1, 0, b"\x03\xac", "", "ok returns 0\n"),
     ("()I", 1, 0, b"\x04\xac", "", "ok returns 1\n"),
@@ -274,11 +288,32 @@ static CODES: [(&str, usize, usize, &[u8], &str, &str); 37] = [
     ("()I", 1, 0, b"\x10\x80\xac", "", "ok returns -128\n"),
     ("()I", 1, 0, b"\x10\x7f\xac", "", "ok returns 127\n"),
     ("()I", 1, 0, b"\x10\xac\xac", "", "ok returns -84\n"),
-    ("()I", 0, 0, b"\x03\xac", "", NOT_BUILT),
-    ("()I", 1, 0, b"\x1a\xac", "", NOT_BUILT),
-    ("()I", 1, 0, b"\xac", "", NOT_BUILT),
+    (
+        "()I",
+        0,
+        0,
+        b"\x03\xac",
+        "",
+        "refused 6 Verify Depth f()I 0\n",
+    ),
+    (
+        "()I",
+        1,
+        0,
+        b"\x1a\xac",
+        "",
+        "refused 6 Verify Local f()I 0\n",
+    ),
+    ("()I", 1, 0, b"\xac", "", "refused 6 Verify Depth f()I 0\n"),
     ("()I", 1, 0, b"", "", "refused 5 Class Shape 76\n"),
-    ("()I", 1, 0, b"\x03\x10\xac", "", NOT_BUILT),
+    (
+        "()I",
+        1,
+        0,
+        b"\x03\x10\xac",
+        "",
+        "refused 6 Verify Depth f()I 1\n",
+    ),
     (
         "(IIIII)I",
         1,
@@ -287,13 +322,27 @@ static CODES: [(&str, usize, usize, &[u8], &str, &str); 37] = [
         " 1 2 3 4 5",
         "ok returns 1\n",
     ),
-    ("(II)V", 1, 2, b"\x1a\xac", " 1 2", NOT_BUILT),
-    ("(II)J", 1, 2, b"\x1a\xac", " 1 2", NOT_BUILT),
+    (
+        "(II)V",
+        1,
+        2,
+        b"\x1a\xac",
+        " 1 2",
+        "refused 6 Verify Return f(II)V 1\n",
+    ),
+    ("(II)J", 1, 2, b"\x1a\xac", " 1 2", ENTRY_MISSING),
     ("(IZ)I", 1, 2, b"\x1a\xac", " 5 0", "ok returns 5\n"),
     ("(II)I", 1, 2, b"\x1a\xac\x1b\xac", " 5 3", "ok returns 5\n"),
-    ("([I)I", 1, 1, b"\x1a\xac", " 1", NOT_BUILT),
-    ("I", 1, 1, b"\x03\xac", "", NOT_BUILT),
-    ("(I)II", 1, 1, b"\x1a\xac", " 1", NOT_BUILT),
+    (
+        "([I)I",
+        1,
+        1,
+        b"\x1a\xac",
+        " 1",
+        "refused 6 Verify Kind f([I)I 0\n",
+    ),
+    ("I", 1, 1, b"\x03\xac", "", ENTRY_MISSING),
+    ("(I)II", 1, 1, b"\x1a\xac", " 1", ENTRY_MISSING),
 ];
 
 #[test]
@@ -326,10 +375,12 @@ fn long_code(alloc: Global, is_odd: bool, count: u32) -> Result<Vec<u8>, AllocEr
 }
 
 #[test]
-fn code_has_at_most_19999_bytes(rt: HostRuntime) -> Result<(), Fail> {
+fn a_segment_has_at_most_20000_instructions(rt: HostRuntime) -> Result<(), Fail> {
     let cases = [
         (true, 9_997, 19_999, "ok returns 9998\n"),
-        (false, 9_999, 20_000, NOT_BUILT),
+        (false, 9_999, 20_000, "ok returns 10000\n"),
+        (true, 9_998, 20_001, "ok returns 9999\n"),
+        (false, 10_000, 20_002, "ok runaway\n"),
     ];
     for (is_odd, count, size, want) in cases {
         let code = long_code(rt.alloc(), is_odd, count)?;

@@ -5,8 +5,14 @@ use std::alloc::AllocError;
 use std::process::Abort;
 use tests_devices::{SOUND, run};
 
-/// The reply to a file that isn't thin and has no fault.
-pub const NOT_BUILT: &str = "refused 90 NotBuilt\n";
+/// The reply of `class` to a file that isn't thin and has no fault.
+const NOT_BUILT: &str = "refused 90 NotBuilt\n";
+
+/// The reply of `once` where there is no such method, or a foreign one, or one that can't be an entry.
+pub const ENTRY_MISSING: &str = "refused 11 EntryMissing\n";
+
+/// Its reply where the words aren't one of its kind for each parameter.
+pub const WORDS_REFUSED: &str = "refused 16 Words\n";
 
 /// The line for the worked file, and the one that adds its class.
 pub const BOTH: &[u8] = b"once T.class f (II)I 5 3\nclass T.class";
@@ -25,13 +31,19 @@ pub fn check(
     Ok(())
 }
 
-/// That `once` and `class` both give this refusal where T.class is this file.
-pub fn check_refused(
+/// That `once` gives this reply, and `class` the same where the file has a fault, and else that it isn't
+/// built, where T.class is this file.
+pub fn check_other(
     rt: &(impl Abort + AllocGlobal),
     what: &str,
     file: &[u8],
-    refusal: &str,
+    reply: &str,
 ) -> Result<(), AllocError> {
-    let want = format!(in rt.alloc(); "{refusal}{refusal}")?;
+    let class = if reply.starts_with("refused 5 ") {
+        reply
+    } else {
+        NOT_BUILT
+    };
+    let want = format!(in rt.alloc(); "{reply}{class}")?;
     check(rt, what, file, BOTH, want.as_str())
 }

@@ -2,7 +2,8 @@
 
 use crate::javac;
 use ms_classfile::{
-    Class, ClassFault, class_files_are_whole_or_have_a_fault, codes_lie_in_their_file, read_class,
+    Class, ClassFault, class_files_are_whole_or_have_a_fault, codes_lie_in_their_file,
+    faults_have_places, read_class,
 };
 use ms_pool::{ClassKind, Out, RawHandler};
 use std::alloc::{AllocError, Global};
@@ -46,6 +47,7 @@ fn fault_of(alloc: Global, bytes: &[u8]) -> Option<ClassFault> {
 fn laws_do_nothing(_rt: HostRuntime) {
     class_files_are_whole_or_have_a_fault();
     codes_lie_in_their_file();
+    faults_have_places();
 }
 
 #[test]

@@ -8,7 +8,9 @@ const NO_COMMAND: &str = "refused 2 Command\n";
 
 const RANGE: &str = "refused 13 Range\n";
 
-const NOT_BUILT: &str = "refused 90 NotBuilt\n";
+const ENTRY_MISSING: &str = "refused 11 EntryMissing\n";
+
+const WORDS_REFUSED: &str = "refused 16 Words\n";
 
 #[test]
 fn answers_the_worked_lines(rt: HostRuntime) -> Result<(), Fail> {
@@ -20,7 +22,7 @@ twice
 ";
     let want = "ok returns -2147483648
 ok returns 0
-refused 90 NotBuilt
+refused 16 Words
 refused 3 Absent U.class
 refused 2 Command
 ";
@@ -33,17 +35,17 @@ static REPLIES: [(&str, &str); 58] = [
     ("once", NO_COMMAND),
     ("once T.class", NO_COMMAND),
     ("once T.class f", NO_COMMAND),
-    ("once T.class f (II)I", NOT_BUILT),
+    ("once T.class f (II)I", WORDS_REFUSED),
     ("Once T.class f (II)I 1 2", NO_COMMAND),
     ("onceT.class f (II)I 1 2", NO_COMMAND),
     ("twice T.class f (II)I 1 2", NO_COMMAND),
-    ("once T.class f (II)I 1", NOT_BUILT),
-    ("once T.class f (II)I 1 2 3", NOT_BUILT),
-    ("once T.class g (II)I 1 2", NOT_BUILT),
-    ("once T.class ff (II)I 1 2", NOT_BUILT),
-    ("once T.class f (I)I 1", NOT_BUILT),
-    ("once T.class f (III)I 1 2", NOT_BUILT),
-    ("once T.class f (II) 1 2", NOT_BUILT),
+    ("once T.class f (II)I 1", WORDS_REFUSED),
+    ("once T.class f (II)I 1 2 3", WORDS_REFUSED),
+    ("once T.class g (II)I 1 2", ENTRY_MISSING),
+    ("once T.class ff (II)I 1 2", ENTRY_MISSING),
+    ("once T.class f (I)I 1", ENTRY_MISSING),
+    ("once T.class f (III)I 1 2", ENTRY_MISSING),
+    ("once T.class f (II) 1 2", ENTRY_MISSING),
     ("once T.class f (II)I 1 2", "ok returns 3\n"),
     ("  once   T.class  f (II)I   1    2  ", "ok returns 3\n"),
     ("once T.class f (II)I 007 0000000001", "ok returns 8\n"),

@@ -3,14 +3,15 @@
 
 use ms_classfile::thin_files_are_read;
 use ms_command::{CommandRefusal, Reply, end_text, write_reply};
-use ms_jvm::thin_methods_end;
+use ms_jvm::{entered_runs_have_ends, thin_methods_end};
 use ms_memoise::{MOST_INPUT, Status, memoise};
 use ms_outside::{
     Fetch, FolderShelf, Shelf, Shelved, StdSink, StdSource, SureShelf, SureSink, SureSource,
 };
 use ms_pool::Short;
 use ms_session::{
-    least_inputs_come_first, path_list_is_unique, reports_list_each_path, trees_are_in_choice_order,
+    least_inputs_come_first, once_answers_every_file, path_list_is_unique, reports_list_each_path,
+    trees_are_in_choice_order,
 };
 use ms_words::{Ended, Footprint, Item, Name, PathEnd, Thrown, thrown_named};
 use std::alloc::{AllocError, Global};
@@ -81,6 +82,8 @@ fn laws_do_nothing(_rt: HostRuntime) {
     reports_list_each_path();
     path_list_is_unique();
     trees_are_in_choice_order();
+    entered_runs_have_ends();
+    once_answers_every_file();
 }
 
 #[test]

@@ -284,7 +284,8 @@ fn sessions_explore_and_report(rt: HostRuntime) -> Result<(), Fail> {
 fn an_initialiser_is_no_entry(rt: HostRuntime) -> Result<(), Fail> {
     let class = changed(rt.alloc(), &[(40, 3, b"\x00\x08<clinit>")])?;
     let input = "class T.class\nentry T <clinit> (II)I\nonce T.class <clinit> (II)I 1 2";
-    let want = "ok class T verdicts 0 segments 0\nrefused 11 EntryMissing\nok returns 3\n";
+    let want =
+        "ok class T verdicts 0 segments 0\nrefused 11 EntryMissing\nrefused 11 EntryMissing\n";
     check(&rt, input, class.as_slice(), input.as_bytes(), want)?;
     let object = changed(rt.alloc(), &[(40, 3, b"\x00\x06<init>")])?;
     let input = "class T.class\nentry T <init> (II)I";

@@ -6,8 +6,9 @@ use crate::views::six;
 use ms_classfile::{class_files_are_read, members_are_distinct, pools_lie_in_their_file};
 use ms_code::codes_are_read;
 use ms_program::{
-    File, MethodBody, Program, bodies_have_whole_codes, files_are_read, first_fault,
-    instructions_are_of_the_subset, members_have_first_items, read_file, views_lead_to_views,
+    File, MethodBody, Program, bodies_have_whole_codes, files_are_read,
+    files_are_whole_or_have_a_fault, first_fault, instructions_are_of_the_subset,
+    members_have_first_items, read_file, views_lead_to_views,
 };
 use std::alloc::{AllocError, Global};
 use std::fmt::Write;
@@ -133,6 +134,7 @@ fn files_are_read_or_have_a_fault(rt: HostRuntime) -> Result<(), Fail> {
 #[test]
 fn laws_do_nothing(_rt: HostRuntime) {
     files_are_read();
+    files_are_whole_or_have_a_fault();
     class_files_are_read();
     members_are_distinct();
     pools_lie_in_their_file();

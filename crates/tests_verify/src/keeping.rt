@@ -8,7 +8,7 @@ use ms_program::{MethodId, Program};
 use ms_typing::{methods_have_one_outcome, verified_programs_are_never_stuck};
 use ms_verify::{
     Verified, VerifyWhy, accepted_programs_are_never_stuck, accepted_programs_are_verified,
-    accepted_programs_have_no_fault, methods_are_seen,
+    accepted_programs_have_no_fault, first_faults_are_found, methods_are_seen,
 };
 use std::alloc::{AllocError, Global};
 use std::fmt::Write;
@@ -99,6 +99,7 @@ fn programs_are_handed_back(rt: HostRuntime) -> Result<(), Fail> {
 fn laws_have_no_effect(_rt: HostRuntime) {
     methods_are_seen();
     accepted_programs_have_no_fault();
+    first_faults_are_found();
     accepted_programs_are_verified();
     accepted_programs_are_never_stuck();
     methods_have_one_outcome();

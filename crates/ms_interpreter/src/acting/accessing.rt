@@ -57,7 +57,7 @@ pub(crate) fn access<I: Copy + Drop>(
             Ok(Accessed::Did(Did::Initialises(class)))
         }
         Initialiser::Foreign => {
-            let name = initialiser_name(alloc, member)?;
+            let name = initialiser_name(alloc, member.class_name)?;
             Ok(Accessed::Did(Did::Stops(Stop::Missing(name))))
         }
     }
@@ -85,11 +85,11 @@ fn with_descriptor(alloc: Global, bytes: Vec<u8>, member: &Member<'_>) -> Result
     Name::of(alloc, bytes.as_slice())
 }
 
-/// The name of the initialiser of a member's class.
-fn initialiser_name(alloc: Global, member: &Member<'_>) -> Result<Name, NoMemory>
-    ensures { IfOk result (λ name. name ≡ machine.initialiser_name member.now.class_name.now) }
+/// The name of the initialiser of the class of this name.
+pub(crate) fn initialiser_name(alloc: Global, class_name: &[u8]) -> Result<Name, NoMemory>
+    ensures { IfOk result (λ name. name ≡ machine.initialiser_name class_name.now) }
 {
-    let mut bytes = Vec::from_slice(alloc, member.class_name)?;
+    let mut bytes = Vec::from_slice(alloc, class_name)?;
     bytes.extend_from_slice(b".<clinit>")?;
     Name::of(alloc, bytes.as_slice())
 }

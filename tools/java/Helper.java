@@ -1,0 +1,7 @@
+class Helper {
+    static int field;
+
+    static int twice(int n) {
+        return 2 * n;
+    }
+}
