@@ -7,8 +7,8 @@ use Rattle.ms_machine.specs.Ints.{ints, shadows}
 use Rattle.ms_machine.specs.Control.{Program, Views, State, Done, step}
 use Rattle.ms_machine.specs.Tests.{arms_of, literals}
 use Rattle.ms_machine.specs.Segments.{After, Choice, Over, segment_from}
-use Rattle.ms_machine.specs.Runs.{IsMet, after_arms, arms_at, done_after, next_literals, string, string_from, way, word_arm}
-use Rattle.ms_machine.specs.Laws.{AllKeys, HasArm, IsWhole, LawOfTheString, int_of, keys_differ, parameters_from, shadow_started}
+use Rattle.ms_machine.specs.Runs.{IsMet, Takes, after_arms, arms_at, done_after, next_literals, string, string_from, way, word_arm}
+use Rattle.ms_machine.specs.Laws.{AllKeys, HasArm, IsWhole, KeysDiffer, LawOfTheString, TakesWhereMet, condition, int_of, keys_differ, parameters_from, shadow_started}
 use Rattle.ms_machine.proofs.ControlKeeps.{HasShort, start_short, step_short}
 use Rattle.ms_machine.proofs.EffectKeeps.{IsOf}
 use Rattle.ms_machine.proofs.Keeping.{GoodAfter, GoodDone, GoodStep, done_after_good, segment_good}
@@ -95,11 +95,21 @@ string_is : (P : Program) (x : Words) → IsWhole x → (depth : ℕ) → string
 string_is P x whole depth = ap (string_from ints P.view word_arm depth) (started_values P x whole)
     ∙ string_map shadows ints (int_of x.words) (values_respect x.words) (arm_on x) word_arm (λ test. refl) P.view depth (shadow_started P x.kinds)
 
+-- the strings that words of these kinds take are paths
+path_of : (P : Program) (x y : Words) → IsWhole y → x.kinds ≡ y.kinds → (p : List ℕ) → Takes P y p → IsPath P.view (shadow_started P x.kinds) p
+path_of P x y whole kinds p takes = subst (λ ks. IsPath P.view (shadow_started P ks) p) (sym kinds)
+    (taken_is_path P.view y p (shadow_started P y.kinds) (sym (string_is P y whole (length p)) ∙ takes))
+
+-- along a path
+met_on_path : (P : Program) → KeysDiffer P → (x : Words) → IsWhole x → (p : List ℕ) → IsPath P.view (shadow_started P x.kinds) p → Takes P x p ↔ AllByRecursion (IsMet x) (condition P x.kinds p)
+met_on_path P differ x whole p path =
+    let met = path_is_met P.view differ x p (shadow_started P x.kinds) (start_short P (parameters_from 0 x.kinds)) path in
+    let same = string_is P x whole (length p) in
+    (λ is. met.0 (sym same ∙ is), λ all. same ∙ met.1 all)
+
+pub takes_where_met : (P : Program) → TakesWhereMet P
+takes_where_met P differ x y whole whole' kinds p takes = met_on_path P differ x whole p (path_of P x y whole' kinds p takes)
+
 pub law_of_the_string : (P : Program) → LawOfTheString P
 law_of_the_string P differ x y whole whole' kinds p arm takes has =
-    let start = shadow_started P x.kinds in
-    let path : IsPath P.view start p = subst (λ ks. IsPath P.view (shadow_started P ks) p) (sym kinds)
-    (taken_is_path P.view y p (shadow_started P y.kinds) (sym (string_is P y whole' (length p)) ∙ takes)) in
-    let met = path_is_met P.view differ x (p ++ arm ∷ []) start (start_short P (parameters_from 0 x.kinds)) (path_then P.view start p arm path has) in
-    let same = string_is P x whole (length (p ++ arm ∷ [])) in
-    (λ is. met.0 (sym same ∙ is), λ all. same ∙ met.1 all)
+    met_on_path P differ x whole (p ++ arm ∷ []) (path_then P.view (shadow_started P x.kinds) p arm (path_of P x y whole' kinds p takes) has)

@@ -134,6 +134,11 @@ abbrev pub LawOfTheString : Program → Type 0
 LawOfTheString P = KeysDiffer P → (x y : Words) → IsWhole x → IsWhole y → x.kinds ≡ y.kinds → (p : List ℕ) (arm : ℕ) → Takes P y p → HasArm (shadow_after P x.kinds p).after arm
     → Takes P x (p ++ arm ∷ []) ↔ AllByRecursion (IsMet x) (condition P x.kinds (p ++ arm ∷ []))
 
+-- Where the keys of each switch differ and some words take p, x takes p exactly where it makes true all literals
+-- on the way through p.
+abbrev pub TakesWhereMet : Program → Type 0
+TakesWhereMet P = KeysDiffer P → (x y : Words) → IsWhole x → IsWhole y → x.kinds ≡ y.kinds → (p : List ℕ) → Takes P y p → Takes P x p ↔ AllByRecursion (IsMet x) (condition P x.kinds p)
+
 -- HOW MANY ARMS AND LITERALS
 
 -- a test has an arm, and at most 65,535; and each arm has at most 65,535 literals

@@ -16,6 +16,7 @@ ghost use Rattle.ms_machine.specs.Laws.{
   MarksAreRight,
   NeedsNoInput,
   SharesShadows,
+  TakesWhereMet,
   WordsAreValues,
 };
 
@@ -47,6 +48,12 @@ pub fn inputs_share_shadows()
 /// each literal on the way through the string and those of the arm.
 pub fn takes_where_literals_hold()
     ensures { (P : Program) → LawOfTheString P }
+{}
+
+/// Where the keys of each switch differ, and some input takes a string: an input of the same kinds takes it
+/// exactly where it makes true each literal on the way through it.
+pub fn takes_where_met()
+    ensures { (P : Program) → TakesWhereMet P }
 {}
 
 /// The arm that a test of words takes is one of the test's.

@@ -13,5 +13,5 @@ mod laws;
 pub use laws::{
     choices_are_small, footprints_have_views, inputs_share_shadows, least_exists, least_is_first,
     least_is_unique, marks_are_right, shadows_need_no_input, takes_where_literals_hold,
-    words_are_values, words_take_an_arm,
+    takes_where_met, words_are_values, words_take_an_arm,
 };

@@ -1,5 +1,6 @@
 -- Terms over the parameters of the entry, and their values.
-use Rattle.std.specs.Prelude.{ℕ, ℤ, pos, Bool, true, false, List, Option, Some, None, slice_get, unwrap_or}
+use Rattle.std.specs.Prelude.{ℕ, ◌^◌, ℤ, pos, Bool, true, false, List, Option, Some, None, slice_get, unwrap_or}
+use Rattle.std.specs.Int.Bits.{bit_or}
 use Rattle.ms_words.specs.declared.kind.Kind.{Kind}
 use Rattle.ms_words.specs.declared.operator.Un.{Un}
 use Rattle.ms_words.specs.declared.operator.Bin.{Bin}
@@ -51,3 +52,10 @@ folded2 op a b None w = Binary op a b
 -- the term of an operator's result: a constant exactly where both operands are constants
 abbrev pub binary : Bin → Term → Term → Term
 binary op a b = folded2 op a b (constant_of a) (constant_of b)
+
+-- the parameters in a term: the bit of each, counted from the lowest
+abbrev pub params : Term → ℕ
+params (Constant word) = 0
+params (Param index kind) = 2 ^ index
+params (Unary op a) = params a
+params (Binary op a b) = bit_or (params a) (params b)

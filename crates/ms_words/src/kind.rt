@@ -7,7 +7,7 @@ use std::marker::Model;
 
 /// The kind of an int, as a descriptor names it (JVMS SE 8, section 4.3.2): boolean, byte, char, short,
 /// int.
-#[derive(Clone, Copy, Debug, PartialEq, Eq)]
+#[derive(Clone, Copy, Debug, PartialEq, Eq, Hash)]
 pub enum Kind {
     Z,
     B,

@@ -5,7 +5,7 @@ ghost use Rattle.ms_words.specs.declared.operator.Bin.TheVariants.{Div, Rem, Shl
 ghost use Rattle.ms_words.specs.declared.operator.Un.TheVariants.{I2b, I2s};
 
 /// An operator on one word (JVMS SE 8, section 6.5: ineg, i2b, i2c, i2s).
-#[derive(Clone, Copy, Debug, PartialEq, Eq)]
+#[derive(Clone, Copy, Debug, PartialEq, Eq, Hash)]
 pub enum Un {
     Neg,
     I2b,
@@ -16,7 +16,7 @@ pub enum Un {
 /// An operator on two words (JVMS SE 8, section 6.5: iadd, isub, imul, idiv, irem, ishl, ishr, iushr,
 /// iand, ior, ixor). A shift uses the lowest five bits of its count. By zero, where no instruction
 /// divides, `Div` gives -1, or 1 for a negative word, and `Rem` gives the first word.
-#[derive(Clone, Copy, Debug, PartialEq, Eq)]
+#[derive(Clone, Copy, Debug, PartialEq, Eq, Hash)]
 pub enum Bin {
     Add,
     Sub,

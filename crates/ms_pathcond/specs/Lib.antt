@@ -1,0 +1,4 @@
+pub mod Literals
+pub mod Slices
+pub mod Gathered
+pub mod Mixing

@@ -1,0 +1,15 @@
+//! Conditions on the input: lists of relations between terms, and their slices.
+//!
+//! A slice has the literals that share parameters, transitively, with the last ones, in their order. The others
+//! speak of other parameters, so an input that makes them true and one that makes the slice true are put
+//! together, parameter by parameter, to one that makes all true.
+#![tactic(auto)]
+
+mod condition;
+mod gathering;
+mod laws;
+mod literal;
+
+pub use condition::{Condition, Slice};
+pub use laws::{least_inputs_are_put_together, slices_are_put_together};
+pub use literal::{Literal, Literals, support};

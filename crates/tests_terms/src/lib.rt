@@ -1,0 +1,10 @@
+//! Tests of terms, conditions and slices.
+//!
+//! The expected texts follow from the rules: an operator of constants is a constant, equal terms have one number,
+//! and a slice has the literals that share parameters, transitively, with the last ones.
+#![tactic(auto, using(crate::proofs::More::of_more))]
+
+#[cfg(test)]
+mod slices;
+#[cfg(test)]
+mod terms;
