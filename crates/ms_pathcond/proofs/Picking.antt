@@ -2,6 +2,7 @@
 use Rattle.std.proofs.Common.{◌≡◌, ◌≢◌, ◌<◌, ◌≤◌, ◌+◌, ℕ, zero, suc, true, false, List, [], ◌∷◌, ◌++◌, length, map, take, get_or, slice_get, Some, refl, sym, ap, subst, ◌∙◌, arith}
 use Rattle.std.specs.Prelude.{fold}
 use Rattle.std.specs.Int.Bits.{bit_and, bit_or}
+use Rattle.std.specs.List.{AllByRecursion}
 use Rattle.std.proofs.lemmas.List.{length-map}
 use Rattle.std.proofs.lemmas.Option.{slice_get_within, slice_get-get_or}
 use Rattle.ms_pathcond.specs.declared.literal.Literal.{Literal}
@@ -126,3 +127,10 @@ is_slice nodes all first gathered its slice are sound closed picked = record {
 
     back : (n : ℕ) → n < 0 + length all → Belongs its first n → is_met n (get_or its n 0) first gathered ≡ true
     back n less belongs = belongs_is_met its first gathered n closed belongs (get_or its n 0) (slice_get-get_or its n 0 (omega (arith, less, many)))
+
+-- what holds of all holds of those that are picked
+pub all_picked : {X : Type 0} (Q : X → Type 0) (IsIn : ℕ → Type 0) (place : ℕ) (xs picked : List X) → AllByRecursion Q xs → Picks IsIn place xs picked → AllByRecursion Q picked
+all_picked Q IsIn place [] [] all (Ends _) = tt
+all_picked Q IsIn place [] (_ ∷ picked) all none = elim none [ ]
+all_picked Q IsIn place (x ∷ xs) (_ ∷ picked) all (Takes _ _ _ _ here rest) = (all.0, all_picked Q IsIn (suc place) xs picked all.1 rest)
+all_picked Q IsIn place (x ∷ xs) picked all (Leaves _ _ _ _ out rest) = all_picked Q IsIn (suc place) xs picked all.1 rest

@@ -18,7 +18,7 @@ use Rattle.ms_machine.specs.Laws.{HasArm, IsWhole, KeysDiffer, LawOfTheString, T
 use Rattle.ms_pathcond.specs.declared.literal.Literal.{Literal}
 use Rattle.ms_pathcond.specs.Literals.{relation_of, support_of, supports}
 use Rattle.ms_pathcond.specs.Slices.{Belongs, Ends, IsSlice, Last, Leaves, Picks, Shares, Slice, Takes as Picked, params_of}
-use Rattle.ms_pathcond.specs.Mixing.{IsLeastMet, LawOfSlices, LeastOfSlices, has, mixed, relations}
+use Rattle.ms_pathcond.specs.Mixing.{IsLeastMet, LawOfSlices, LeastOfSlices, TakersMeetSlices, has, mixed, relations}
 use Rattle.ms_pathcond.proofs.Bits.{has_both, has_one, has_some, met_same}
 use Rattle.ms_pathcond.proofs.Mixed.{as_many, before_mixed, mixed_are_of, mixed_first, mixed_second}
 
@@ -332,3 +332,10 @@ least_of_slices P law where_met differ p arm there nodes all slice are is x y le
     let first = length (condition P P.entry.kinds p) in
     subst (λ params. IsLeast P (p ++ arm ∷ []) (mixed params x y)) (params_are nodes all first slice is)
     (least P law where_met differ p arm there (relations nodes all) (relations nodes slice.literals) are (of_relations nodes all first slice is) x y least_x least_y)
+
+pub takers_meet_slices : (P : Program) → LawOfTheString P → TakersMeetSlices P
+takers_meet_slices P law differ p arm there nodes all slice are is x y input_x input_y takes_y takes_x =
+    let words : (w : Words) → IsInputOf P w → IsWhole w = (λ w input. whole_of w.kinds w refl input.words) in
+    let met = (law differ x y (words x input_x) (words y input_y) (input_x.kinds ∙ sym input_y.kinds) p arm takes_y (subst (λ ks. HasArm (shadow_after P ks p).after arm) (sym input_x.kinds) there)).0 takes_x in
+    slice_of_met (relations nodes all) (relations nodes slice.literals) (length (condition P P.entry.kinds p)) (of_relations nodes all (length (condition P P.entry.kinds p)) slice is) x
+    (subst (AllByRecursion (IsMet x)) (ap (λ ks. condition P ks (p ++ arm ∷ [])) input_x.kinds ∙ sym are) met)

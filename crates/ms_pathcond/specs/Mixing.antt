@@ -7,7 +7,7 @@ use Rattle.ms_words.specs.declared.kind.Kind.{Kind}
 use Rattle.ms_terms.specs.declared.term.Term.{Term as Node}
 use Rattle.ms_terms.specs.Terms.{Term}
 use Rattle.ms_machine.specs.Control.{Program}
-use Rattle.ms_machine.specs.Runs.{IsLeast, IsMet}
+use Rattle.ms_machine.specs.Runs.{IsInputOf, IsLeast, IsMet, Takes}
 use Rattle.ms_machine.specs.Tests.{Literal as Relation}
 use Rattle.ms_machine.specs.Laws.{HasArm, IsWhole, KeysDiffer, condition, shadow_after}
 use Rattle.ms_pathcond.specs.declared.literal.Literal.{Literal}
@@ -18,7 +18,7 @@ use Rattle.ms_pathcond.specs.Slices.{IsSlice, Slice}
 abbrev pub has : ℕ → ℕ → Bool
 has params index = bit_at params index == 1
 
--- the first words at the places of a set, counted from a place on, and the second at the others
+-- the first words at the places of a set, counted from a place on, and the second at the others; both are as many
 abbrev pub mixed_from : (ℕ → Bool) → ℕ → List ℤ → List ℤ → List ℤ
 mixed_from is_first index [] ys = ys
 mixed_from is_first index (x ∷ xs) [] = []
@@ -47,8 +47,15 @@ pub record IsLeastMet (kinds : List Kind) (literals : List (Relation Term)) (x :
 
 -- The first input that takes p with an arm is the first of the slice on the slice's parameters, and the first
 -- input that takes p on the others. The slice is that of the literals on the way through p with the arm, from
--- those of the arm on.
+-- those of the arm on. The keys of each switch differ, and the choice has the arm.
 abbrev pub LeastOfSlices : Program → Type 0
 LeastOfSlices P = KeysDiffer P → (p : List ℕ) (arm : ℕ) → HasArm (shadow_after P P.entry.kinds p).after arm
     → (nodes : List Node) (all : List Literal) (slice : Slice) → relations nodes all ≡ condition P P.entry.kinds (p ++ arm ∷ []) → IsSlice nodes all (length (condition P P.entry.kinds p)) slice
     → (x y : Words) → IsLeastMet P.entry.kinds (relations nodes slice.literals) x → IsLeast P p y → IsLeast P (p ++ arm ∷ []) (mixed slice.params x y)
+
+-- An input that takes p with an arm makes the slice true: so where no input of the entry's kinds does, none takes
+-- it. The keys of each switch differ, some input y takes p, and the choice has the arm.
+abbrev pub TakersMeetSlices : Program → Type 0
+TakersMeetSlices P = KeysDiffer P → (p : List ℕ) (arm : ℕ) → HasArm (shadow_after P P.entry.kinds p).after arm
+    → (nodes : List Node) (all : List Literal) (slice : Slice) → relations nodes all ≡ condition P P.entry.kinds (p ++ arm ∷ []) → IsSlice nodes all (length (condition P P.entry.kinds p)) slice
+    → (x y : Words) → IsInputOf P x → IsInputOf P y → Takes P y p → Takes P x (p ++ arm ∷ []) → AllByRecursion (IsMet x) (relations nodes slice.literals)

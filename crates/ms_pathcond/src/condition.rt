@@ -48,10 +48,12 @@ impl Condition {
     }
 
     /// The literals that share parameters, transitively, with those from place `first` on, counted from 0, in
-    /// their order. All are over these terms.
+    /// their order: none where `first` is behind the last. All are over these terms. It fails for want of memory
+    /// alone.
     pub fn slice(&self, alloc: Global, terms: &Terms, first: u32) -> Result<Slice, NoMemory>
         requires { AreOf (length terms.now) self.now }
-        ensures { IfOk result (IsSlice terms.now self.now first) }
+        ensures slice { IfOk result (IsSlice terms.now self.now first) }
+        ensures of { IfOk result (λ slice. AreOf (length terms.now) slice.literals) }
     {
         let first = first as usize;
         let literals = self.literals.as_slice();

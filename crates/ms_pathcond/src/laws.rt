@@ -1,9 +1,9 @@
 ghost use Rattle.ms_machine.specs.Control.{Program};
-ghost use Rattle.ms_pathcond.specs.Mixing.{LawOfSlices, LeastOfSlices};
+ghost use Rattle.ms_pathcond.specs.Mixing.{LawOfSlices, LeastOfSlices, TakersMeetSlices};
 
 use ms_machine::{takes_where_literals_hold, takes_where_met};
 
-/// An input that makes a slice true, and one of the same kinds that makes true the literals before the last ones,
+/// An input that makes a slice true, and one of the same kinds, with a word for each, that makes true the literals before the last ones,
 /// are put together to one that makes all true: the slice's parameters from the first, the others from the
 /// second.
 pub fn slices_are_put_together()
@@ -18,4 +18,12 @@ pub fn least_inputs_are_put_together()
 {
     takes_where_literals_hold();
     takes_where_met();
+}
+
+/// An input that takes a string with an arm makes the slice true. So where no input of the entry's kinds makes it
+/// true, none takes that string.
+pub fn takers_make_slices_true()
+    ensures { (P : Program) → TakersMeetSlices P }
+{
+    takes_where_literals_hold();
 }

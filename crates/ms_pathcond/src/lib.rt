@@ -11,5 +11,5 @@ mod laws;
 mod literal;
 
 pub use condition::{Condition, Slice};
-pub use laws::{least_inputs_are_put_together, slices_are_put_together};
+pub use laws::{least_inputs_are_put_together, slices_are_put_together, takers_make_slices_true};
 pub use literal::{Literal, Literals, support};

@@ -26,7 +26,7 @@ impl Default for Literal {
     }
 }
 
-/// The parameters in a literal over these terms: the bit of each, counted from the lowest.
+/// The parameters in a literal over these terms: bit i is set exactly where parameter i, from 0 to 7, is in it.
 pub fn support(terms: &Terms, literal: Literal) -> u8
     requires { IsOf (length terms.now) literal }
     ensures { result ≡ support_of (relation_of terms.now literal) }
@@ -53,7 +53,7 @@ impl Model for Literals {
 }
 
 impl Literals {
-    /// The empty list. It takes no memory.
+    /// The empty list.
     pub fn new(alloc: Global) -> Literals
         ensures { result ≡ [] }
     {

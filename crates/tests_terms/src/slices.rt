@@ -2,6 +2,7 @@
 
 use ms_pathcond::{
     Condition, Literal, Literals, least_inputs_are_put_together, slices_are_put_together, support,
+    takers_make_slices_true,
 };
 use ms_terms::{Term, Terms};
 use ms_words::{Kind, Rel};
@@ -20,7 +21,7 @@ fn tell(text: &mut String, literal: Literal) -> Result<(), AllocError> {
     }
 }
 
-/// The slice, from a place on, of p0 > 10, p1 = 3, p0 = p2, p2 != 0.
+/// The slice, from a place on, of p0 > 10, p1 < 10, p0 = p2, p2 != 10.
 fn sliced(alloc: Global, first: u32) -> Result<String, AllocError> {
     let mut text = String::new(alloc);
     let mut terms = Terms::new(alloc);
@@ -186,4 +187,5 @@ fn literals_are_listed(rt: HostRuntime) -> Result<(), Fail> {
 fn laws_do_nothing(_rt: HostRuntime) {
     slices_are_put_together();
     least_inputs_are_put_together();
+    takers_make_slices_true();
 }
