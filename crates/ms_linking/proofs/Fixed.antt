@@ -1,7 +1,7 @@
 -- An opcode that is none of those that say all says not all, or nothing.
-use Rattle.std.proofs.Common.{◌≡◌, ℕ, ◌<◌, ◌==◌, Bool, true, false, ◌||◌, List, [], ◌∷◌, Option, None, Some, refl, sym, ap, ◌∙◌}
+use Rattle.std.proofs.Common.{◌≡◌, ℕ, ◌<◌, ◌≤◌, ◌==◌, arith, nat_lt, Bool, true, false, ◌||◌, List, [], ◌∷◌, Option, None, Some, refl, sym, ap, ◌∙◌}
 use Rattle.std.specs.Prelude.{is_none, option_and_then}
-use Rattle.std.proofs.lemmas.Bool.{eqb-true}
+use Rattle.std.proofs.lemmas.Bool.{eqb-true, ltb-true}
 use Rattle.ms_machine.specs.Instructions.{Instr}
 use Rattle.ms_code.specs.declared.instruction.Operand.{Operand}
 use Rattle.ms_program.specs.Views.{View}
@@ -27,26 +27,47 @@ isnt_among op (first ∷ others) is = by_test (isnt_among op others is.0) (op ==
     by_test rest true same = absurd (is.1 (eqb-true op first same))
     by_test rest false same = rest
 
--- the opcodes that say all, the last first
-abbrev pub all_said : List ℕ
-all_said =
-    200 ∷ 199 ∷ 198 ∷ 191 ∷ 190 ∷ 188 ∷ 177 ∷ 176 ∷ 172 ∷ 167 ∷ 166 ∷ 165 ∷ 164 ∷ 163 ∷ 162 ∷ 161 ∷ 160 ∷ 159 ∷ 158 ∷ 157 ∷ 156 ∷ 155 ∷ 154 ∷ 153
-    ∷ 147 ∷ 146 ∷ 145 ∷ 130 ∷ 128 ∷ 126 ∷ 124 ∷ 122 ∷ 120 ∷ 116 ∷ 112 ∷ 108 ∷ 104 ∷ 100 ∷ 96 ∷ 95 ∷ 94 ∷ 93 ∷ 92 ∷ 91 ∷ 90 ∷ 89 ∷ 88 ∷ 87
-    ∷ 79 ∷ 78 ∷ 77 ∷ 76 ∷ 75 ∷ 62 ∷ 61 ∷ 60 ∷ 59 ∷ 46 ∷ 45 ∷ 44 ∷ 43 ∷ 42 ∷ 29 ∷ 28 ∷ 27 ∷ 26 ∷ 8 ∷ 7 ∷ 6 ∷ 5 ∷ 4 ∷ 3 ∷ 2 ∷ 1 ∷ 0 ∷ []
+-- the opcodes below 96 that say all, the last first
+abbrev pub moving_said : List ℕ
+moving_said =
+    95 ∷ 94 ∷ 93 ∷ 92 ∷ 91 ∷ 90 ∷ 89 ∷ 88 ∷ 87 ∷ 79 ∷ 78 ∷ 77 ∷ 76 ∷ 75 ∷ 62 ∷ 61 ∷ 60 ∷ 59 ∷ 46 ∷ 45 ∷ 44 ∷ 43 ∷ 42 ∷ 29 ∷ 28 ∷ 27 ∷ 26
+    ∷ 8 ∷ 7 ∷ 6 ∷ 5 ∷ 4 ∷ 3 ∷ 2 ∷ 1 ∷ 0 ∷ []
 
-first_256 : all_below 256 (λ op. is_among op all_said || is_none (option_and_then fixed_in (group_of op))) ≡ true
+-- those from 96 on
+abbrev pub working_said : List ℕ
+working_said =
+    200 ∷ 199 ∷ 198 ∷ 191 ∷ 190 ∷ 188 ∷ 177 ∷ 176 ∷ 172 ∷ 167 ∷ 166 ∷ 165 ∷ 164 ∷ 163 ∷ 162 ∷ 161 ∷ 160 ∷ 159 ∷ 158 ∷ 157 ∷ 156 ∷ 155 ∷ 154 ∷ 153
+    ∷ 147 ∷ 146 ∷ 145 ∷ 130 ∷ 128 ∷ 126 ∷ 124 ∷ 122 ∷ 120 ∷ 116 ∷ 112 ∷ 108 ∷ 104 ∷ 100 ∷ 96 ∷ []
+
+-- whether an opcode is among these, or says not all
+abbrev is_told : List ℕ → ℕ → Bool
+is_told said op = is_among op said || is_none (option_and_then fixed_in (group_of op))
+
+first_96 : all_below 96 (is_told moving_said) ≡ true
 unfolding group_of
-first_256 = refl
+first_96 = refl
+
+from_96 : all_below 256 (λ op. nat_lt op 96 || is_told working_said op) ≡ true
+unfolding group_of
+from_96 = refl
 
 none_is : (found : Option Instr) → is_none found ≡ true → None ≡ found
 none_is None is = refl
 none_is (Some x) is = absurd (let e = is in cc)
 
 -- each other opcode doesn't
-pub others_say_less : (op : ℕ) → op < 256 → IsOther op all_said → None ≡ option_and_then fixed_in (group_of op)
-others_say_less op below other =
-    let all : (is_among op all_said || is_none (option_and_then fixed_in (group_of op))) ≡ true = passes 256 op (λ op. is_among op all_said || is_none (option_and_then fixed_in (group_of op))) first_256 below in
-    none_is (option_and_then fixed_in (group_of op)) (sym (ap (λ (b : Bool). b || is_none (option_and_then fixed_in (group_of op))) (isnt_among op all_said other)) ∙ all)
+says_less : (said : List ℕ) (op : ℕ) → IsOther op said → is_told said op ≡ true → None ≡ option_and_then fixed_in (group_of op)
+says_less said op other told = none_is (option_and_then fixed_in (group_of op)) (sym (ap (λ (b : Bool). b || is_none (option_and_then fixed_in (group_of op))) (isnt_among op said other)) ∙ told)
+
+pub others_move_less : (op : ℕ) → op < 96 → IsOther op moving_said → None ≡ option_and_then fixed_in (group_of op)
+others_move_less op below other = says_less moving_said op other (passes 96 op (is_told moving_said) first_96 below)
+
+pub others_work_less : (op : ℕ) → 96 ≤ op → op < 256 → IsOther op working_said → None ≡ option_and_then fixed_in (group_of op)
+others_work_less op from below other = says_less working_said op other (by_test (nat_lt op 96) refl (passes 256 op (λ op. nat_lt op 96 || is_told working_said op) from_96 below))
+  where
+    by_test : (b : Bool) → nat_lt op 96 ≡ b → (b || is_told working_said op) ≡ true → is_told working_said op ≡ true
+    by_test true less told = absurd (omega (arith, from, ltb-true op 96 less))
+    by_test false less told = told
 
 -- OPCODES THAT SAY NOT ALL
 

@@ -1,4 +1,4 @@
-ghost use Rattle.std.specs.Prelude.{◌≡◌, IfOk, option_and_then, option_map};
+ghost use Rattle.std.specs.Prelude.{◌≡◌, ◌<◌, ◌≤◌, IfOk, option_and_then, option_map};
 ghost use Rattle.ms_program.specs.Programs.{class_named};
 ghost use Rattle.ms_program.specs.Views as views;
 ghost use Rattle.ms_linking.specs.Groups.{group_of};
@@ -14,8 +14,17 @@ use ms_words::{Bin, NoMemory, Un, field_type, known_signature, thrown_named};
 use std::alloc::Global;
 
 /// What an opcode does that says all.
-#[tactic(auto, unfolding(crate::specs::Groups::group_of))]
 fn fixed<'a>(op: u8) -> Option<Instruction<'a>>
+    ensures { option_map told result ≡ option_and_then fixed_in (group_of op) }
+{
+    if op < 96 { moving(op) } else { working(op) }
+}
+
+/// What an opcode below 96 does that says all: constants, loads, stores and the operand stack (JVMS SE 8, sections
+/// 2.11.2 and 2.11.6).
+#[tactic(auto, unfolding(crate::specs::Groups::group_of))]
+fn moving<'a>(op: u8) -> Option<Instruction<'a>>
+    requires { op < 96 }
     ensures { option_map told result ≡ option_and_then fixed_in (group_of op) }
 {
     let instruction = match op {
@@ -55,6 +64,19 @@ fn fixed<'a>(op: u8) -> Option<Instruction<'a>>
         93 => shuffle(3, &[0, 1, 2, 0, 1]),
         94 => shuffle(4, &[0, 1, 2, 3, 0, 1]),
         95 => shuffle(2, &[1, 0]),
+        _ => return None,
+    };
+    Some(instruction)
+}
+
+/// What an opcode from 96 on does that says all: operators, comparisons, jumps, returns, arrays and throws (JVMS
+/// SE 8, sections 2.11.3 to 2.11.9).
+#[tactic(auto, unfolding(crate::specs::Groups::group_of))]
+fn working<'a>(op: u8) -> Option<Instruction<'a>>
+    requires { 96 ≤ op }
+    ensures { option_map told result ≡ option_and_then fixed_in (group_of op) }
+{
+    let instruction = match op {
         96 => Instruction::Combine(Bin::Add),
         100 => Instruction::Combine(Bin::Sub),
         104 => Instruction::Combine(Bin::Mul),

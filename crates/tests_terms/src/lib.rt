@@ -2,7 +2,7 @@
 //!
 //! The expected texts follow from the rules: an operator of constants is a constant, equal terms have one number,
 //! and a slice has the literals that share parameters, transitively, with the last ones.
-#![tactic(auto, using(crate::proofs::More::of_more))]
+#![tactic(auto)]
 
 #[cfg(test)]
 mod slices;

@@ -120,6 +120,7 @@ fn sharing_is_transitive(rt: HostRuntime) -> Result<(), Fail> {
 
 /// How many literals the slice of 100,000 has, from the last one on: p0 against a constant and p1 against another
 /// in turn, the last of p1.
+#[tactic(auto, using(crate::proofs::More::of_more))]
 fn many(alloc: Global) -> Result<usize, AllocError> {
     let mut terms = Terms::new(alloc);
     let ten = terms.constant(10)?;

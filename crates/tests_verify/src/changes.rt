@@ -71,34 +71,34 @@ static PLACES: [(u16, u32, u32); 13] = [
 ];
 
 /// What is said of each method with one bit changed, in two lines for each method and at fifty places for each line:
-/// `.` where the class is verified, `f` where it is no class file, else the first letter of the fault and its offset.
+/// `.` where the class is verified, `f` where it is no class file, else the offset of the fault and its first letter.
 const CHANGED: &str = "
-    .D13f....L8D20ff..L1..L12..fff....K1f...L8.K17..f...f.f.....f.
-    f..f..L1ffff.fD13.f.ffL24..ff.fD20.......K17f...L6.ff......K1
-    D0.f.D0fffL11.ff..ff..fD7fL1.f..fD0.f.f..D2f.f.ff...fffff.
-    .f.D2f.D7.ff.D0fff.fD2.f.ff..fff..fff.fffD7f.f.f.fff...
-    .ff..f..L3...ff.....f.f.f....f......ffD14f...fff.....
-    .ff.....f....ffL10L5f...f..fK10....fD14...f..f.f.......D7.
-    ffD22f..f.f.ffff.f.ff.ff.fK3.fffff.ffffL19.D16....fL8.D4f.L2
-    ..L5ffffff.f.D12fffff.f.fff.ffL5fffffL8f.f.D11fff.L13fff.ff
-    .f.f.D3f..f.f......f..........ff.f..f.......f.....f
-    ...f..........f....f.f.fff.f....f...D3fff.ff..fff..
-    D32...fff..ff..fD32f.f.fff.fD29f.M29fffD32..f..ff.fffffff.ff
-    f.ffffffffff.fM36..fff.ff.ffffff.fffD29ff.ffff.f...fM1.
-    .L30...ffffff.f.fff..f.ff..f..ffff...f..fff.f.f.fff.
-    ..f..f.f...fff.D29f.ff.f..fff....f.fff..fff...ff....
-    f...f.....ff.f...f.f.fD5f......f....f.ffff..f.L8L5..f
-    .fff..f.f.....f.L4f.ff.f.f..ff...fff..L4.fff..f.D0.ff
-    .ffL1f.f.D39ffD2.f..ff.D11f...f..D35..f..ff...L15.fM36M36...fD6.L25
-    ff..L15f...ffffffD4.f....fD10...f.L33.....f..ff.D0K17.f...f.
-    .fff...M40f..f.M37..f.ff..f.D37...ffK61...f..f..fffM40...f.f
-    .ffD105.f..fM54ff...D37L105.f....fffffL55..f.f.D110L101ffD44f..f.ff..f
-    ..f....f..f.M107...f.ff..fD32L30.fD56f.K65.L59ffK24..f..f...fK89D51..
-    .D107fff.ffff.f..ff.D50.f...D32fK41f.........f............K99
-    ff.fL48f..K6fD45ff..ff..M13ff.ff.fff..ffK25f.ffff.f.f.D5fff.
-    f..f..M48.ffD15L19fM48K37K45f.fffD45fff.f.ffK37fffffffM13ffK6.fffffD31.
+    .13Df....8L20Dff..1L..12L..fff....1Kf...8L.17K..f...f.f.....f.
+    f..f..1Lffff.f13D.f.ff24L..ff.f20D.......17Kf...6L.ff......1K
+    0D.f.0Dfff11L.ff..ff..f7Df1L.f..f0D.f.f..2Df.f.ff...fffff.
+    .f.2Df.7D.ff.0Dfff.f2D.f.ff..fff..fff.fff7Df.f.f.fff...
+    .ff..f..3L...ff.....f.f.f....f......ff14Df...fff.....
+    .ff.....f....ff10L5Lf...f..f10K....f14D...f..f.f.......7D.
+    ff22Df..f.f.ffff.f.ff.ff.f3K.fffff.ffff19L.16D....f8L.4Df.2L
+    ..5Lffffff.f.12Dfffff.f.fff.ff5Lfffff8Lf.f.11Dfff.13Lfff.ff
+    .f.f.3Df..f.f......f..........ff.f..f.......f.....f
+    ...f..........f....f.f.fff.f....f...3Dfff.ff..fff..
+    32D...fff..ff..f32Df.f.fff.f29Df.29Mfff32D..f..ff.fffffff.ff
+    f.ffffffffff.f36M..fff.ff.ffffff.fff29Dff.ffff.f...f1M.
+    .30L...ffffff.f.fff..f.ff..f..ffff...f..fff.f.f.fff.
+    ..f..f.f...fff.29Df.ff.f..fff....f.fff..fff...ff....
+    f...f.....ff.f...f.f.f5Df......f....f.ffff..f.8L5L..f
+    .fff..f.f.....f.4Lf.ff.f.f..ff...fff..4L.fff..f.0D.ff
+    .ff1Lf.f.39Dff2D.f..ff.11Df...f..35D..f..ff...15L.f36M36M...f6D.25L
+    ff..15Lf...ffffff4D.f....f10D...f.33L.....f..ff.0D17K.f...f.
+    .fff...40Mf..f.37M..f.ff..f.37D...ff61K...f..f..fff40M...f.f
+    .ff105D.f..f54Mff...37D105L.f....fffff55L..f.f.110D101Lff44Df..f.ff..f
+    ..f....f..f.107M...f.ff..f32D30L.f56Df.65K.59Lff24K..f..f...f89K51D..
+    .107Dfff.ffff.f..ff.50D.f...32Df41Kf.........f............99K
+    ff.f48Lf..6Kf45Dff..ff..13Mff.ff.fff..ff25Kf.ffff.f.f.5Dfff.
+    f..f..48M.ff15D19Lf48M37K45Kf.fff45Dfff.f.ff37Kfffffff13Mff6K.fffff31D.
     ......f..f.ff.f......ff..ffff.....f..f.f...f.....f
-    ff..ff.f..K4fff.f.ff..f...ff..f...f....ffff..f..f..
+    ff..ff.f..4Kfff.f.ff..f...ff..f...f....ffff..f..f..
 ";
 
 /// The next number.

@@ -62,7 +62,7 @@ pub fn outcome(alloc: Global, file: Vec<u8>) -> Result<String, AllocError> {
 }
 
 /// A word for what is said of the program of one class: `.` where it is verified, `f` where the file has a fault, else
-/// the first letter of the fault and its offset.
+/// the offset of the fault and its first letter.
 pub fn short_outcome(alloc: Global, file: Vec<u8>) -> Result<String, AllocError> {
     let mut text = String::new(alloc);
     let mut program = Program::new(alloc);
@@ -75,7 +75,7 @@ pub fn short_outcome(alloc: Global, file: Vec<u8>) -> Result<String, AllocError>
         Err(unverified) => match unverified.why {
             VerifyWhy::Fault { offset, kind, .. } => {
                 let letter = kind_letter(kind);
-                write!(text, "{letter}{offset}")?;
+                write!(text, "{offset}{letter}")?;
             }
             VerifyWhy::NoMemory => text.push_str("?")?,
         },
