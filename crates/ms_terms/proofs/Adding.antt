@@ -2,15 +2,18 @@
 use Rattle.std.proofs.Common.{◌≡◌, ◌⊎◌, inl, inr, ◌<◌, ◌≤◌, ◌+◌, ℕ, zero, suc, Bool, true, false, cond, not, List, [], ◌∷◌, ◌++◌, length, map, slice_get, nat_lt, pos, Option, Some, None, refl, sym, ap, subst, ◌∙◌, arith}
 use Rattle.std.specs.Prelude.{unwrap_or}
 use Rattle.std.specs.List.{IsDistinct, position_or_len}
+use Rattle.std.specs.List.{AllByRecursion}
 use Rattle.std.specs.Map.{keys_of, lookup}
+use Rattle.std.proofs.lemmas.Map.{none_passes_from_lookup}
 use Rattle.std.proofs.lemmas.Bool.{ltb-false, ltb-true}
 use Rattle.std.proofs.lemmas.List.{length-append}
 use Rattle.std.proofs.lemmas.Option.{slice_get_within}
 use Rattle.indexmap.specs.IndexMap.{insert_entry}
 use Rattle.ms_terms.specs.declared.term.Term.{Term as Node}
 use Rattle.ms_terms.specs.Terms.{Constant, params}
-use Rattle.ms_terms.specs.Nodes.{Adds, AreParams, IsBelow, IsTable, over, term_of, terms_of}
-use Rattle.ms_terms.proofs.Once.{terms_once}
+use Rattle.ms_terms.specs.Nodes.{Adds, AreParams, Grows, IsAbsent, IsBelow, IsTable, over, term_of, terms_of}
+use Rattle.ms_terms.proofs.Grown.{same_table}
+use Rattle.ms_terms.proofs.Once.{all_at, node_at, same_node_at, terms_once}
 use Rattle.ms_terms.proofs.Growing.{append, as_many, at_place, behind, front_stays, over_same}
 
 -- ENTRIES
@@ -76,7 +79,7 @@ pub record Comes (old : List (Node × ℕ)) (n : Node) (place : ℕ) (new : List
   pub params : AreParams new
   pub is : slice_get (terms_of (keys_of new)) place ≡ Some (over (terms_of (keys_of old)) n)
   pub added : (keys_of new ≡ keys_of old) ⊎ (terms_of (keys_of new) ≡ terms_of (keys_of old) ++ over (terms_of (keys_of old)) n ∷ [])
-  pub kept : (i : ℕ) → i < length (keys_of old) → term_of (keys_of new) i ≡ term_of (keys_of old) i
+  pub grows : Grows (keys_of old) (keys_of new)
   pub grown : length (keys_of old) ≤ length (keys_of new)
 
 module _ (eq : Node → Node → Bool) (is : (n m : Node) → eq n m ≡ true → n ≡ m)
@@ -113,7 +116,7 @@ module _ (eq : Node → Node → Bool) (is : (n m : Node) → eq n m ≡ true �
         params = right;
         is = at_place nodes (position_or_len (eq n) nodes) n here (table.earlier (position_or_len (eq n) nodes) n here);
         added = inl refl;
-        kept = λ i less. refl;
+        grows = same_table (keys_of old);
         grown = omega arith;
       })
   comes None none =
@@ -131,7 +134,7 @@ module _ (eq : Node → Node → Bool) (is : (n m : Node) → eq n m ≡ true �
             (at_place (nodes ++ n ∷ []) place n here (more.earlier place n here)
             ∙ ap Some (over_same (terms_of nodes) (terms_of (nodes ++ n ∷ [])) (length nodes) n below stay));
         added = inr (ap terms_of keys ∙ terms);
-        kept = λ i less. ap (λ ks. term_of ks i) keys ∙ ap (λ o. unwrap_or o (Constant (pos 0))) (stay i less);
+        grows = record { more = n ∷ []; is = keys };
         grown = subst (λ ks. length nodes ≤ length ks) (sym keys) (omega (arith, length-append nodes (n ∷ [])));
       }
 
@@ -154,13 +157,29 @@ adds eq same now old new seen n place number apart c is =
       is = ap (slice_get (terms_of (keys_of new))) is ∙ c.is;
       added = c.added;
       once = terms_once eq same (keys_of new) c.table apart;
-      kept = c.kept;
     })
+
+-- where the node isn't there, neither is its term
+pub absent : (eq : Node → Node → Bool) → ((n : Node) → eq n n ≡ true) → (now : List Node) (old new : List (Node × ℕ)) → keys_of old ≡ now → IsTable (keys_of old) → IsDistinct eq (keys_of new) → new ≡ old
+    → (n : Node) → IsBelow (length now) n → lookup (eq n) old ≡ None → IsAbsent now (over (terms_of now) n)
+absent eq same now old new seen table apart unchanged n below none place at =
+    let once = terms_once eq same (keys_of old) table (subst (λ es. IsDistinct eq (keys_of es)) unchanged apart) in
+    let there = subst (λ ks. slice_get (terms_of ks) place ≡ Some (over (terms_of ks) n)) (sym seen) at in
+    let m = node_at (keys_of old) table place (over (terms_of (keys_of old)) n) there in
+    let is : m.n ≡ n = same_node_at (keys_of old) table once place m.n n m.below (omega (arith, slice_get_within (keys_of old) place m.n m.at)) (subst (λ ks. IsBelow (length ks) n) (sym seen) below) m.is in
+    let differs = all_keys old (none_passes_from_lookup (eq n) old none) in
+    let e : eq n n ≡ false = all_at (λ k. eq n k ≡ false) (keys_of old) place n differs (m.at ∙ ap Some is) in
+    absurd (let t = same n in let f = e in cc)
+  where
+    all_keys : (es : List (Node × ℕ)) → AllByRecursion (λ (e : Node × ℕ). eq n e.0 ≡ false) es → AllByRecursion (λ k. eq n k ≡ false) (keys_of es)
+    all_keys [] all = tt
+    all_keys (e ∷ es) all = (all.0, all_keys es all.1)
 
 -- LOOKING
 
 -- the key and the value of an entry of a table: its node, and the parameters of its term
 pub record Looks (now : List Node) (id : ℕ) (n : Node) (mask : ℕ) : Type 0 where
+  pub node : slice_get now id ≡ Some n
   pub term : over (terms_of now) n ≡ term_of now id
   pub operands : IsBelow id n
   pub params : mask ≡ params (term_of now id)
@@ -171,6 +190,7 @@ looks now entries seen table right id n mask at =
     let below = table.earlier id n at_key in
     let term = at_place (keys_of entries) id n at_key below in
     subst (λ ks. Looks ks id n mask) seen (record {
+      node = at_key;
       term = sym (ap (λ o. unwrap_or o (Constant (pos 0))) term);
       operands = below;
       params = (let e : Some mask ≡ Some (params (over (terms_of (keys_of entries)) n)) = sym (map_at (λ e. e.1) entries id (n, mask) at) ∙ ap (λ ms. slice_get ms id) right ∙ map_at params (terms_of (keys_of entries)) id (over (terms_of (keys_of entries)) n) term in let f : mask ≡ params (over (terms_of (keys_of entries)) n) = (let g = e in cc) in f) ∙ sym (ap (λ o. params (unwrap_or o (Constant (pos 0)))) term);

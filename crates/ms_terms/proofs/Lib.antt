@@ -1,5 +1,6 @@
 mod Example
 pub mod Growing
+pub mod Grown
 pub mod Once
 pub mod Adding
 pub mod Same

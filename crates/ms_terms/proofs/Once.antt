@@ -16,7 +16,7 @@ use Rattle.ms_terms.proofs.Growing.{as_many, at_place, stands}
 -- NODES
 
 -- where all are so, the one at a place is
-all_at : {X : Type 0} (P : X → Type 0) (xs : List X) (i : ℕ) (x : X) → AllByRecursion P xs → slice_get xs i ≡ Some x → P x
+pub all_at : {X : Type 0} (P : X → Type 0) (xs : List X) (i : ℕ) (x : X) → AllByRecursion P xs → slice_get xs i ≡ Some x → P x
 all_at P [] i x all at = absurd (let e = at in cc)
 all_at P (y ∷ ys) zero x all at = subst P (let e = at in cc) all.0
 all_at P (y ∷ ys) (suc i) x all at = all_at P ys i x all.1 at
@@ -39,13 +39,13 @@ places_differ eq same (first ∷ ks) apart k (suc i) (suc j) at_i at_j = ap suc 
 
 module _ (nodes : List Node) (table : IsTable nodes) where
   -- the node of a term
-  record Of (i : ℕ) (term : Term) : Type 0 where
-    n : Node
-    at : slice_get nodes i ≡ Some n
-    below : IsBelow i n
-    is : over (terms_of nodes) n ≡ term
+  pub record Of (i : ℕ) (term : Term) : Type 0 where
+    pub n : Node
+    pub at : slice_get nodes i ≡ Some n
+    pub below : IsBelow i n
+    pub is : over (terms_of nodes) n ≡ term
 
-  node_at : (i : ℕ) (term : Term) → slice_get (terms_of nodes) i ≡ Some term → Of i term
+  pub node_at : (i : ℕ) (term : Term) → slice_get (terms_of nodes) i ≡ Some term → Of i term
   node_at i term at =
       let within : i < length nodes = omega (arith, slice_get_within (terms_of nodes) i term at, as_many nodes) in
       let s = stands nodes i within in
@@ -98,6 +98,28 @@ module _ (nodes : List Node) (table : IsTable nodes) where
   binary_of i (node.Param index kind) op t s below is = absurd cc
   binary_of i (node.Unary o a) op t s below is = absurd cc
   binary_of i (node.Binary o a b) op t s below is = record { a = a; b = b; is = cc; before_a = below.0; before_b = below.1; term_a = cc; term_b = cc }
+
+  -- nodes of one term are one node, where each term stands once
+  module _ (once : EachOnce (terms_of nodes)) where
+    one_operand : (a b : ℕ) → a < length nodes → b < length nodes → term_at (terms_of nodes) a ≡ term_at (terms_of nodes) b → a ≡ b
+    one_operand a b within_a within_b same =
+        let s = stands (terms_of nodes) a (omega (arith, within_a, as_many nodes)) in
+        let t = stands (terms_of nodes) b (omega (arith, within_b, as_many nodes)) in
+        let is_a = ap (λ o. unwrap_or o (Constant (pos 0))) s.1 in
+        let is_b = ap (λ o. unwrap_or o (Constant (pos 0))) t.1 in
+        once t.0 a b (s.1 ∙ ap Some (sym is_a ∙ same ∙ is_b)) t.1
+
+    pub same_node_at : (i : ℕ) (m n : Node) → IsBelow i m → i < length nodes → IsBelow (length nodes) n → over (terms_of nodes) m ≡ over (terms_of nodes) n → m ≡ n
+    same_node_at i m (node.Constant word) below_m within below_n is = constant_of m word is
+    same_node_at i m (node.Param index kind) below_m within below_n is = param_of m index kind is
+    same_node_at i m (node.Unary op a) below_m within below_n is =
+        let u = unary_of i m op (term_at (terms_of nodes) a) below_m is in
+        u.is ∙ ap (node.Unary op) (one_operand u.a a (omega (arith, u.before, within)) below_n u.term)
+    same_node_at i m (node.Binary op a b) below_m within below_n is =
+        let u = binary_of i m op (term_at (terms_of nodes) a) (term_at (terms_of nodes) b) below_m is in
+        let one_a = one_operand u.a a (omega (arith, u.before_a, within)) below_n.0 u.term_a in
+        let one_b = one_operand u.b b (omega (arith, u.before_b, within)) below_n.1 u.term_b in
+        u.is ∙ (λ j. node.Binary op (one_a j) (one_b j))
 
   module _ (one : (n : Node) (i j : ℕ) → slice_get nodes i ≡ Some n → slice_get nodes j ≡ Some n → i ≡ j) where
     -- the nodes of one term are one

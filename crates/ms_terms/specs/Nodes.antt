@@ -48,10 +48,18 @@ AreParams entries = map (λ entry. entry.1) entries ≡ map params (terms_of (ma
 abbrev pub EachOnce : List Term → Type 0
 EachOnce terms = (term : Term) (i j : ℕ) → slice_get terms i ≡ Some term → slice_get terms j ≡ Some term → i ≡ j
 
--- A term has this number in the new table, which is the old one where the term is in that, and else has the
--- term behind those of the old one. The old ones keep their numbers.
+-- no term of a table is this one
+abbrev pub IsAbsent : List Node → Term → Type 0
+IsAbsent nodes term = (place : ℕ) → slice_get (terms_of nodes) place ≡ Some term → ⊥
+
+-- A table has grown to another: nodes may stand behind its own. So each of its numbers is that of the same term.
+pub record Grows (old new : List Node) : Type 0 where
+  pub more : List Node
+  pub is : new ≡ old ++ more
+
+-- A term has this number in the new table, in which each term has one number. It is the old table where the term is in
+-- that, and else has the term behind those of the old one.
 pub record Adds (old : List Node) (term : Term) (number : ℕ) (new : List Node) : Type 0 where
   pub is : slice_get (terms_of new) number ≡ Some term
   pub added : (new ≡ old) ⊎ (terms_of new ≡ terms_of old ++ term ∷ [])
   pub once : EachOnce (terms_of new)
-  pub kept : (place : ℕ) → place < length old → term_of new place ≡ term_of old place

@@ -11,3 +11,6 @@ returns-clause-term c = (looked c).term
 
 pub returns-clause-operands : goal.returns-clause-operands
 returns-clause-operands c = (looked c).operands
+
+pub returns-clause-node : goal.returns-clause-node
+returns-clause-node c = (looked c).node
