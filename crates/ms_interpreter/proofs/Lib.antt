@@ -17,3 +17,6 @@ mod Turned
 mod Started
 mod Cases
 mod Steps
+mod Stayed
+mod Symbolic
+pub mod Segmented

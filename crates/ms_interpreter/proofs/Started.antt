@@ -6,11 +6,10 @@ use Rattle.ms_words.specs.declared.item.Item.{Item}
 use Rattle.ms_words.specs.declared.item.Item.TheVariants.{Entry}
 use Rattle.ms_program.specs.declared.method.MethodId.{MethodId}
 use Rattle.ms_program.specs.declared.view.Initialiser.{Initialiser}
-use Rattle.ms_program.specs.declared.view.Initialiser.TheVariants.{Absent, Present, Foreign}
+use Rattle.ms_program.specs.declared.view.Initialiser.TheVariants.{Absent, Present}
 use Rattle.ms_program.specs.Programs.{Class, Program}
 use Rattle.ms_program.specs.Views.{entry_part_at, first_of, initialiser_first, initialiser_there, numbered, view_at}
-use Rattle.ms_program.proofs.Picking.{some_is}
-use Rattle.ms_machine.specs.Values.{Value, Int, Memory, Missing}
+use Rattle.ms_machine.specs.Values.{Value, Int, Missing}
 use Rattle.ms_machine.specs.Effects.{by_initialiser, initialiser_name}
 use Rattle.ms_machine.specs.Control as machine
 use Rattle.ms_machine.specs.Control.{Done, Goes, Ends, enters, entry_frame, memory_at_start, start}

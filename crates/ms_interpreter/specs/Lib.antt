@@ -3,6 +3,7 @@ pub mod Locals
 pub mod Fields
 pub mod Seen
 pub mod Plans
+pub mod Staying
 pub mod Doing
 pub mod Taken
 pub mod Accessing
@@ -10,3 +11,4 @@ pub mod Asking
 pub mod Leads
 pub mod Turns
 pub mod Begun
+pub mod Symbols

@@ -5,7 +5,9 @@ use Rattle.ms_machine.specs.Ints.{Ints}
 use Rattle.ms_machine.specs.Instructions.{Instr}
 use Rattle.ms_machine.specs.Effects.{Test, effect}
 use Rattle.ms_machine.specs.Control.{View, Views, Done, Goes, Ends, Step, Then, Chooses, perform, step}
+use Rattle.ms_machine.specs.Segments.{After, Choice, Over}
 use Rattle.ms_machine.specs.Tests.{arm_of, known_test}
+use Rattle.ms_machine.specs.Values.{Stuck}
 use Rattle.ms_interpreter.specs.declared.finish.Finish.{Finish}
 use Rattle.ms_interpreter.specs.declared.state.State.{State}
 use Rattle.ms_interpreter.specs.declared.turn.Turn.{Turn}
@@ -18,6 +20,11 @@ use Rattle.ms_interpreter.specs.Seen.{here_of, texts_of}
 abbrev pub settled : {V : Type 0} → Ints V → Step V → Option (Done V)
 settled J (Then done) = Some done
 settled J (Chooses test arms) = option_map (λ words. arms (arm_of words)) (known_test J test)
+
+-- the choice that a step is
+abbrev pub choice_of : {V : Type 0} → Step V → After V
+choice_of (Then done) = Over Stuck
+choice_of (Chooses test arms) = Choice test arms
 
 -- what a step comes to, with an arm where it asks a test
 abbrev pub with_arm : {V : Type 0} → ℕ → Step V → Done V

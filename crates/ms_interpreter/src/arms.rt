@@ -82,7 +82,7 @@ pub fn arm_of_index(word: i32, len: usize) -> usize
 
 /// The arm of a test whose ints no parameter entered.
 pub fn known_arm<A: Arithmetic>(asked: &Asked<'_, A::Int>, arithmetic: &A) -> Option<usize>
-    ensures { result ≡ turns.known_arm A.ints (asked_of A.ints A.means asked.now) }
+    ensures { result ≡ turns.known_arm A.ints (asked_of A.ints (A.means arithmetic.now) asked.now) }
 {
     match asked {
         Asked::Compares(comparison, a, b) => {

@@ -105,7 +105,7 @@ fn handler_at(program: &Program, item: Item, class: Thrown) -> Result<Option<Ite
 
 /// The top frame goes on at an item.
 fn go_on<A: Arithmetic>(item: Option<Item>, state: &mut State<A::Int>) -> Option<Finish<A::Int>>
-    ensures { (texts : Texts) → goes_on item (frame_of A.means texts state.old.top) (below_of A.means texts state.old) (memory_of A.means texts state.old.memory) ≡ done_of A.means texts result state.new }
+    ensures { (f : A.Int → A.V) (texts : Texts) → goes_on item (frame_of f texts state.old.top) (below_of f texts state.old) (memory_of f texts state.old.memory) ≡ done_of f texts result state.new }
 {
     let Some(item) = item else {
         return Some(Finish::Stuck);
@@ -117,7 +117,7 @@ fn go_on<A: Arithmetic>(item: Option<Item>, state: &mut State<A::Int>) -> Option
 /// The top frame goes on at the next instruction.
 fn next<A: Arithmetic>(program: &Program, state: &mut State<A::Int>) -> Option<Finish<A::Int>>
     requires { IsSome (views_of program.now state.old.top.at) }
-    ensures { (texts : Texts) → Leads A.means texts (views_of program.now) lead.Next state.old result state.new }
+    ensures { (f : A.Int → A.V) (texts : Texts) → Leads f texts (views_of program.now) lead.Next state.old result state.new }
 {
     let item = next_of(program, state.top.at());
     go_on::<A>(item, state)
@@ -130,7 +130,7 @@ fn jump<A: Arithmetic>(
     state: &mut State<A::Int>,
 ) -> Result<Option<Finish<A::Int>>, NoMemory>
     requires { IsSome (views_of program.now state.old.top.at) }
-    ensures { IfOk result (λ finish. (texts : Texts) → Leads A.means texts (views_of program.now) (lead.Jumps target) state.old finish state.new) }
+    ensures { IfOk result (λ finish. (f : A.Int → A.V) (texts : Texts) → Leads f texts (views_of program.now) (lead.Jumps target) state.old finish state.new) }
 {
     let item = target_of(program, state.top.at(), target)?;
     Ok(go_on::<A>(item, state))
@@ -144,7 +144,7 @@ pub(crate) fn enter<A: Arithmetic>(
     initialises: Option<u16>,
     state: &mut State<A::Int>,
 ) -> Result<Option<Finish<A::Int>>, NoMemory>
-    ensures { IfOk result (λ finish. (texts : Texts) → enters (Some item) (locals_of A.means texts locals.items) initialises (frame_of A.means texts state.old.top) (below_of A.means texts state.old) (memory_of A.means texts state.old.memory) ≡ done_of A.means texts finish state.new) }
+    ensures { IfOk result (λ finish. (f : A.Int → A.V) (texts : Texts) → enters (Some item) (locals_of f texts locals.items) initialises (frame_of f texts state.old.top) (below_of f texts state.old) (memory_of f texts state.old.memory) ≡ done_of f texts finish state.new) }
 {
     if state.below.len() >= MOST_BELOW {
         return Ok(Some(Finish::Deep));
@@ -162,7 +162,7 @@ fn call<A: Arithmetic>(
     state: &mut State<A::Int>,
 ) -> Result<Option<Finish<A::Int>>, NoMemory>
     requires { IsSome (views_of program.now state.old.top.at) }
-    ensures { IfOk result (λ finish. (texts : Texts) → Leads A.means texts (views_of program.now) (lead.Calls count) state.old finish state.new) }
+    ensures { IfOk result (λ finish. (f : A.Int → A.V) (texts : Texts) → Leads f texts (views_of program.now) (lead.Calls count) state.old finish state.new) }
 {
     let Some(item) = callee_of(program, state.top.at()) else {
         return Ok(Some(Finish::Stuck));
@@ -179,7 +179,7 @@ fn initialise<A: Arithmetic>(
     state: &mut State<A::Int>,
 ) -> Result<Option<Finish<A::Int>>, NoMemory>
     requires { IsSome (views_of program.now state.old.top.at) }
-    ensures { IfOk result (λ finish. (texts : Texts) → Leads A.means texts (views_of program.now) (lead.Initialises class) state.old finish state.new) }
+    ensures { IfOk result (λ finish. (f : A.Int → A.V) (texts : Texts) → Leads f texts (views_of program.now) (lead.Initialises class) state.old finish state.new) }
 {
     let Some(item) = initialiser_of(program, state.top.at()) else {
         return Ok(Some(Finish::Stuck));
@@ -191,7 +191,7 @@ fn initialise<A: Arithmetic>(
 
 /// What an entry returned: an int or nothing.
 fn returned<A: Arithmetic>(slot: Option<Slot<A::Int>>) -> Finish<A::Int>
-    ensures { (texts : Texts) → returned_with (option_map (value_of A.means texts) slot) ≡ finish_of A.means result }
+    ensures { (f : A.Int → A.V) (texts : Texts) → returned_with (option_map (value_of f texts) slot) ≡ finish_of f result }
 {
     match slot {
         None => Finish::ReturnedVoid,
@@ -202,7 +202,7 @@ fn returned<A: Arithmetic>(slot: Option<Slot<A::Int>>) -> Finish<A::Int>
 
 /// Puts what was returned on the stack, if anything was.
 fn put<A: Arithmetic>(slot: Option<Slot<A::Int>>, frame: &mut Frame<A::Int>) -> Result<(), NoMemory>
-    ensures { OnOk result ((texts : Texts) → record (frame_of A.means texts frame.old) { stack = onto (option_map (value_of A.means texts) slot) (values_of A.means texts frame.old.stack) } ≡ frame_of A.means texts frame.new) }
+    ensures { OnOk result ((f : A.Int → A.V) (texts : Texts) → record (frame_of f texts frame.old) { stack = onto (option_map (value_of f texts) slot) (values_of f texts frame.old.stack) } ≡ frame_of f texts frame.new) }
 {
     let Some(slot) = slot else {
         return Ok(());
@@ -217,7 +217,7 @@ fn resume<A: Arithmetic>(
     slot: Option<Slot<A::Int>>,
     state: &mut State<A::Int>,
 ) -> Result<Option<Finish<A::Int>>, NoMemory>
-    ensures { IfOk result (λ finish. (texts : Texts) → returns (views_of program.now) (option_map (value_of A.means texts) slot) (memory_of A.means texts state.old.memory) None (frame_of A.means texts state.old.top ∷ below_of A.means texts state.old) ≡ done_of A.means texts finish state.new) }
+    ensures { IfOk result (λ finish. (f : A.Int → A.V) (texts : Texts) → returns (views_of program.now) (option_map (value_of f texts) slot) (memory_of f texts state.old.memory) None (frame_of f texts state.old.top ∷ below_of f texts state.old) ≡ done_of f texts finish state.new) }
 {
     let at = state.top.at();
     if !is_seen(alloc, program, at)? {
@@ -234,7 +234,7 @@ fn return_with<A: Arithmetic>(
     slot: Option<Slot<A::Int>>,
     state: &mut State<A::Int>,
 ) -> Result<Option<Finish<A::Int>>, NoMemory>
-    ensures { IfOk result (λ finish. (texts : Texts) → Leads A.means texts (views_of program.now) (lead.Returns slot) state.old finish state.new) }
+    ensures { IfOk result (λ finish. (f : A.Int → A.V) (texts : Texts) → Leads f texts (views_of program.now) (lead.Returns slot) state.old finish state.new) }
 {
     let initialises = state.top.initialises();
     let Some(caller) = state.below.pop() else {
@@ -261,7 +261,7 @@ fn throw<A: Arithmetic>(
     state: &mut State<A::Int>,
 ) -> Result<Option<Finish<A::Int>>, NoMemory>
     requires { IsSome (views_of program.now state.old.top.at) }
-    ensures { IfOk result (λ finish. (texts : Texts) → Leads A.means texts (views_of program.now) (lead.Raises number class) state.old finish state.new) }
+    ensures { IfOk result (λ finish. (f : A.Int → A.V) (texts : Texts) → Leads f texts (views_of program.now) (lead.Raises number class) state.old finish state.new) }
 {
     'frames: loop {
         if let Some(handler) = handler_at(program, state.top.at(), class)? {
@@ -283,7 +283,7 @@ fn throw<A: Arithmetic>(
 
 /// The end that a stop is.
 fn stopped<A: Arithmetic>(stop: Stop) -> Finish<A::Int>
-    ensures { finish_of A.means result ≡ end_of stop }
+    ensures { (f : A.Int → A.V) → finish_of f result ≡ end_of stop }
 {
     match stop {
         Stop::Missing(name) => Finish::Missing(name),
@@ -302,7 +302,7 @@ pub(crate) fn lead<A: Arithmetic>(
     lead: Lead<A::Int>,
 ) -> Result<Option<Finish<A::Int>>, NoMemory>
     requires { IsSome (views_of program.now state.old.top.at) }
-    ensures { IfOk result (λ finish. (texts : Texts) → Leads A.means texts (views_of program.now) lead state.old finish state.new) }
+    ensures { IfOk result (λ finish. (f : A.Int → A.V) (texts : Texts) → Leads f texts (views_of program.now) lead state.old finish state.new) }
 {
     match lead {
         Lead::Next => Ok(next::<A>(program, state)),

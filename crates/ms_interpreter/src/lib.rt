@@ -22,6 +22,7 @@ mod slot;
 mod starting;
 mod state;
 mod statics;
+mod terms;
 mod turn;
 
 pub use arithmetic::Arithmetic;

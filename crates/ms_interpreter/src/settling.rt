@@ -1,8 +1,9 @@
-ghost use Rattle.std.specs.Prelude.{◌≡◌, IfOk, OnOk};
+ghost use Rattle.std.specs.Prelude.{◌≡◌, ◌+◌, ◌≤◌, IfOk, OnOk};
 ghost use Rattle.ms_interpreter.specs.declared.did.Did.TheVariants as did;
 ghost use Rattle.ms_interpreter.specs.Leads.{Keeps, MakesArray, Settles, natural_of, thrown_lead};
 ghost use Rattle.ms_interpreter.specs.Plans.{computed, planned};
 ghost use Rattle.ms_interpreter.specs.Seen.{Texts};
+ghost use Rattle.ms_interpreter.specs.Staying.{Stay};
 
 use crate::arithmetic::Arithmetic;
 use crate::did::{Did, Stop};
@@ -14,9 +15,12 @@ use crate::slot::Slot;
 use ms_words::{Bin, NoMemory, Thrown};
 use std::alloc::Global;
 
-/// The int that was planned.
+/// The int that was planned. There is room for two ints more.
 fn compute<A: Arithmetic>(plan: Plan<A::Int>, arithmetic: &mut A) -> Result<A::Int, NoMemory>
-    ensures { IfOk result (λ a. A.means a ≡ computed A.ints A.means (planned plan)) }
+    requires room { A.kept arithmetic.old + 2 ≤ 4294967295 }
+    ensures is { IfOk result (λ a. A.means arithmetic.new a ≡ computed A.ints (A.means arithmetic.new) (planned plan)) }
+    ensures stay { Stay A.Has (A.means arithmetic.old) (A.means arithmetic.new) }
+    ensures few { A.kept arithmetic.new ≤ A.kept arithmetic.old + 2 }
 {
     match plan {
         Plan::Constant(word) => arithmetic.constant(word),
@@ -36,8 +40,11 @@ fn push<A: Arithmetic>(
     memory: &Memory<A::Int>,
     arithmetic: &mut A,
 ) -> Result<Lead<A::Int>, NoMemory>
-    ensures lead { IfOk result (λ lead. (texts : Texts) → Settles A.ints A.means texts (did.Pushes plan) frame.old memory.now lead frame.new memory.now) }
+    requires room { A.kept arithmetic.old + 2 ≤ 4294967295 }
+    ensures lead { IfOk result (λ lead. (texts : Texts) → Settles A.ints (A.means arithmetic.new) texts (did.Pushes plan) frame.old memory.now lead frame.new memory.now) }
     ensures keeps { IfOk result (λ lead. Keeps lead frame.old frame.new) }
+    ensures stay { Stay A.Has (A.means arithmetic.old) (A.means arithmetic.new) }
+    ensures few { A.kept arithmetic.new ≤ A.kept arithmetic.old + 2 }
 {
     let a = compute(plan, arithmetic)?;
     frame.push(Slot::Int(a))?;
@@ -52,8 +59,11 @@ fn put<A: Arithmetic>(
     memory: &Memory<A::Int>,
     arithmetic: &mut A,
 ) -> Result<Lead<A::Int>, NoMemory>
-    ensures lead { IfOk result (λ lead. (texts : Texts) → Settles A.ints A.means texts (did.Puts local plan) frame.old memory.now lead frame.new memory.now) }
+    requires room { A.kept arithmetic.old + 2 ≤ 4294967295 }
+    ensures lead { IfOk result (λ lead. (texts : Texts) → Settles A.ints (A.means arithmetic.new) texts (did.Puts local plan) frame.old memory.now lead frame.new memory.now) }
     ensures keeps { IfOk result (λ lead. Keeps lead frame.old frame.new) }
+    ensures stay { Stay A.Has (A.means arithmetic.old) (A.means arithmetic.new) }
+    ensures few { A.kept arithmetic.new ≤ A.kept arithmetic.old + 2 }
 {
     let a = compute(plan, arithmetic)?;
     frame.set_local(local, Slot::Int(a))?;
@@ -88,8 +98,11 @@ fn make_known<A: Arithmetic>(
     memory: &mut Memory<A::Int>,
     arithmetic: &mut A,
 ) -> Result<Lead<A::Int>, NoMemory>
-    ensures lead { IfOk result (λ lead. (texts : Texts) → MakesArray A.ints A.means texts length frame.old memory.old lead frame.new memory.new) }
+    requires room { A.kept arithmetic.old + 2 ≤ 4294967295 }
+    ensures lead { IfOk result (λ lead. (texts : Texts) → MakesArray A.ints (A.means arithmetic.new) texts length frame.old memory.old lead frame.new memory.new) }
     ensures keeps { IfOk result (λ lead. Keeps lead frame.old frame.new) }
+    ensures stay { Stay A.Has (A.means arithmetic.old) (A.means arithmetic.new) }
+    ensures few { A.kept arithmetic.new ≤ A.kept arithmetic.old + 2 }
 {
     if !memory.has_room(length) {
         return Ok(Lead::Stops(Stop::HeapFull));
@@ -108,8 +121,11 @@ fn make<A: Arithmetic>(
     memory: &mut Memory<A::Int>,
     arithmetic: &mut A,
 ) -> Result<Lead<A::Int>, NoMemory>
-    ensures lead { IfOk result (λ lead. (texts : Texts) → Settles A.ints A.means texts (did.Makes size) frame.old memory.old lead frame.new memory.new) }
+    requires room { A.kept arithmetic.old + 2 ≤ 4294967295 }
+    ensures lead { IfOk result (λ lead. (texts : Texts) → Settles A.ints (A.means arithmetic.new) texts (did.Makes size) frame.old memory.old lead frame.new memory.new) }
     ensures keeps { IfOk result (λ lead. Keeps lead frame.old frame.new) }
+    ensures stay { Stay A.Has (A.means arithmetic.old) (A.means arithmetic.new) }
+    ensures few { A.kept arithmetic.new ≤ A.kept arithmetic.old + 2 }
 {
     let Some(word) = arithmetic.known(size) else {
         return Ok(Lead::Stops(Stop::SymLength));
@@ -128,8 +144,11 @@ pub(crate) fn settle<A: Arithmetic>(
     memory: &mut Memory<A::Int>,
     arithmetic: &mut A,
 ) -> Result<Lead<A::Int>, NoMemory>
-    ensures lead { IfOk result (λ lead. (texts : Texts) → Settles A.ints A.means texts did frame.old memory.old lead frame.new memory.new) }
+    requires room { A.kept arithmetic.old + 2 ≤ 4294967295 }
+    ensures lead { IfOk result (λ lead. (texts : Texts) → Settles A.ints (A.means arithmetic.new) texts did frame.old memory.old lead frame.new memory.new) }
     ensures keeps { IfOk result (λ lead. Keeps lead frame.old frame.new) }
+    ensures stay { Stay A.Has (A.means arithmetic.old) (A.means arithmetic.new) }
+    ensures few { A.kept arithmetic.new ≤ A.kept arithmetic.old + 2 }
 {
     match did {
         Did::Next => Ok(Lead::Next),

@@ -63,7 +63,7 @@ fn begin_above<A: Arithmetic>(
     class: u16,
     state: State<A::Int>,
 ) -> Result<Beginning<A::Int>, NoMemory>
-    ensures { IfOk result (λ start. (texts : Texts) → enters item [] (Some class) (frame_of A.means texts state.top) (below_of A.means texts state) (memory_of A.means texts state.memory) ≡ begins A.means texts start) }
+    ensures { IfOk result (λ start. (f : A.Int → A.V) (texts : Texts) → enters item [] (Some class) (frame_of f texts state.top) (below_of f texts state) (memory_of f texts state.memory) ≡ begins f texts start) }
 {
     let Some(item) = item else {
         return Ok(Beginning::Over(Finish::Stuck));
@@ -85,8 +85,8 @@ pub fn start<A: Arithmetic>(
 ) -> Result<Beginning<A::Int>, NoMemory>
     requires class { entry.class < length program.now.classes }
     requires entry { IsSome (program_of (record program.now { entry = Some entry })) }
-    ensures { IfOk result (λ start. (texts : Texts) (parameters : List A.V) → locals_of A.means texts locals.items ≡ map (λ a. Some (Int a)) parameters
-        → option_map (λ P. control.start P parameters) (program_of (record program.now { entry = Some entry })) ≡ Some (begins A.means texts start)) }
+    ensures { IfOk result (λ start. (f : A.Int → A.V) (texts : Texts) (parameters : List A.V) → locals_of f texts locals.items ≡ map (λ a. Some (Int a)) parameters
+        → option_map (λ P. control.start P parameters) (program_of (record program.now { entry = Some entry })) ≡ Some (begins f texts start)) }
 {
     let state = entered(alloc, entry, locals)?;
     match program.initialiser(entry.class) {

@@ -2,7 +2,7 @@ ghost use Rattle.std.specs.Prelude.{◌≡◌, [], OnOk};
 
 use crate::frame::Frame;
 use crate::memory::Memory;
-use ms_words::NoMemory;
+use ms_words::{Item, NoMemory};
 use std::alloc::Global;
 
 /// Where a run is: the frame that runs, those that wait below it, the uppermost last, and the memory (JVMS
@@ -26,5 +26,12 @@ impl<I: Copy + Drop> State<I> {
             below: Vec::new(alloc),
             memory,
         }
+    }
+
+    /// Where the frame that runs is: the instruction that comes.
+    pub fn at(&self) -> Item
+        ensures { result ≡ self.now.top.at }
+    {
+        self.top.at()
     }
 }

@@ -1,4 +1,4 @@
-ghost use Rattle.std.specs.Prelude.{◌≡◌, IfOk, IsSome, option_map};
+ghost use Rattle.std.specs.Prelude.{◌≡◌, ◌+◌, ◌≤◌, IfOk, IfSome, IsSome, Some, option_map};
 ghost use Rattle.ms_machine.specs.Effects.{effect};
 ghost use Rattle.ms_linking.specs.Linked.{views_of};
 ghost use Rattle.ms_linking.specs.Told.{told};
@@ -6,6 +6,7 @@ ghost use Rattle.ms_interpreter.specs.Asking.{asked_of};
 ghost use Rattle.ms_interpreter.specs.Doing.{HasText, test_of};
 ghost use Rattle.ms_interpreter.specs.Leads.{done_of};
 ghost use Rattle.ms_interpreter.specs.Seen.{here_of, texts_of};
+ghost use Rattle.ms_interpreter.specs.Staying.{Stay};
 ghost use Rattle.ms_interpreter.specs.Turns.{Executes, IsSeen, Turns, arm_due, step_in, test_in, turn_of, with_arm};
 
 use crate::acting::act;
@@ -42,9 +43,12 @@ fn execute<A: Arithmetic>(
     state: &mut State<A::Int>,
     arithmetic: &mut A,
 ) -> Result<Option<Finish<A::Int>>, NoMemory>
+    requires room { A.kept arithmetic.old + 2 ≤ 4294967295 }
     requires there { IsSome (views_of program.now state.old.top.at) }
     requires text { HasText (texts_of (views_of program.now)) state.old.top.at (told instruction.now) }
-    ensures { IfOk result (λ finish. Executes A.ints A.means (views_of program.now) (told instruction.now) arm state.old finish state.new) }
+    ensures executes { IfOk result (λ finish. Executes A.ints (A.means arithmetic.new) (views_of program.now) (told instruction.now) arm state.old finish state.new) }
+    ensures stay { Stay A.Has (A.means arithmetic.old) (A.means arithmetic.new) }
+    ensures few { A.kept arithmetic.new ≤ A.kept arithmetic.old + 2 }
 {
     let did = act(
         alloc,
@@ -82,7 +86,8 @@ fn due<A: Arithmetic>(
     program: &Program,
     arithmetic: &A,
 ) -> Option<usize>
-    ensures { result ≡ arm_due A.ints (test_of (effect A.ints (told instruction.now) (here_of A.means (texts_of (views_of program.now)) state.now.top state.now.memory))) }
+    ensures now { result ≡ arm_due A.ints (test_of (effect A.ints (told instruction.now) (here_of (A.means arithmetic.now) (texts_of (views_of program.now)) state.now.top state.now.memory))) }
+    ensures later { (f : A.Int → A.V) → Stay A.Has (A.means arithmetic.now) f → IfSome result (λ arm. arm_due A.ints (test_of (effect A.ints (told instruction.now) (here_of f (texts_of (views_of program.now)) state.now.top state.now.memory))) ≡ Some arm) }
 {
     match ask(instruction, &state.top, &state.memory) {
         Some(test) => known_arm(&test, arithmetic),
@@ -100,14 +105,18 @@ fn turned<I>(finish: Option<Finish<I>>) -> Turn<I>
     }
 }
 
-/// Takes a turn: executes the instruction that comes, unless it is at a choice.
+/// Takes a turn: executes the instruction that comes, unless it is at a choice. It makes two ints at most, for which there
+/// is room.
 pub fn take_turn<A: Arithmetic>(
     alloc: Global,
     program: &Program,
     state: &mut State<A::Int>,
     arithmetic: &mut A,
 ) -> Result<Turn<A::Int>, NoMemory>
-    ensures { IfOk result (λ came. Turns A.ints A.means (views_of program.now) state.old came state.new) }
+    requires room { A.kept arithmetic.old + 2 ≤ 4294967295 }
+    ensures turns { IfOk result (λ came. Turns A.ints (A.means arithmetic.new) (views_of program.now) state.old came state.new) }
+    ensures stay { Stay A.Has (A.means arithmetic.old) (A.means arithmetic.new) }
+    ensures few { A.kept arithmetic.new ≤ A.kept arithmetic.old + 2 }
 {
     let Some(instruction) = seen_at(alloc, program, state.top.at())? else {
         return Ok(Turn::Ends(Finish::Stuck));
@@ -125,7 +134,7 @@ pub fn test_asked<'a, A: Arithmetic>(
     program: &'a Program,
     state: &State<A::Int>,
 ) -> Result<Option<Asked<'a, A::Int>>, NoMemory>
-    ensures { IfOk result (λ test. option_map (asked_of A.ints A.means) test ≡ test_in (step_in A.ints A.means (views_of program.now) state.now)) }
+    ensures { IfOk result (λ test. (f : A.Int → A.V) → option_map (asked_of A.ints f) test ≡ test_in (step_in A.ints f (views_of program.now) state.now)) }
 {
     let Some(instruction) = seen_at(alloc, program, state.top.at())? else {
         return Ok(None);
@@ -134,7 +143,7 @@ pub fn test_asked<'a, A: Arithmetic>(
     Ok(test)
 }
 
-/// Executes the instruction that comes, with an arm of its test.
+/// Executes the instruction that comes, with an arm of its test. It makes two ints at most, for which there is room.
 pub fn choose<A: Arithmetic>(
     alloc: Global,
     program: &Program,
@@ -142,7 +151,10 @@ pub fn choose<A: Arithmetic>(
     arm: usize,
     arithmetic: &mut A,
 ) -> Result<Option<Finish<A::Int>>, NoMemory>
-    ensures { IfOk result (λ finish. with_arm arm (step_in A.ints A.means (views_of program.now) state.old) ≡ done_of A.means (texts_of (views_of program.now)) finish state.new) }
+    requires room { A.kept arithmetic.old + 2 ≤ 4294967295 }
+    ensures chooses { IfOk result (λ finish. with_arm arm (step_in A.ints (A.means arithmetic.new) (views_of program.now) state.old) ≡ done_of (A.means arithmetic.new) (texts_of (views_of program.now)) finish state.new) }
+    ensures stay { Stay A.Has (A.means arithmetic.old) (A.means arithmetic.new) }
+    ensures few { A.kept arithmetic.new ≤ A.kept arithmetic.old + 2 }
 {
     let Some(instruction) = seen_at(alloc, program, state.top.at())? else {
         return Ok(Some(Finish::Stuck));

@@ -1,20 +1,20 @@
 -- What a choice, the end of a segment and the depth make of a run.
-use Rattle.std.proofs.Common.{◌≡◌, ℕ, zero, suc, ◌-◌, ◌+◌, ◌<◌, ◌≤◌, List, [], ◌∷◌, length, Some, None, refl, sym, ap, ◌∙◌, arith}
+use Rattle.std.proofs.Common.{◌≡◌, ℕ, zero, suc, ◌-◌, ◌+◌, ◌<◌, ◌≤◌, [], length, None, refl, sym, ap, ◌∙◌, arith}
 use Rattle.std.specs.Prelude.{IfSome, Option}
 use Rattle.ms_machine.specs.Ints.{Ints, Marked, marks}
-use Rattle.ms_machine.specs.Values.{End, Runaway}
+use Rattle.ms_machine.specs.Values.{End}
 use Rattle.ms_machine.specs.Effects.{Test}
-use Rattle.ms_machine.specs.Control.{Done, Goes, Ends, Step, Then, Chooses, Views}
+use Rattle.ms_machine.specs.Control.{Done, Ends, Step, Then, Chooses, Views}
 use Rattle.ms_machine.specs.Segments.{After, Choice, Over, most_instructions, segment_from}
 use Rattle.ms_machine.specs.Laws.{mark_arm}
 use Rattle.ms_machine.specs.Runs.{RunEnd, Ended, Cut, after_arms, arms_at, done_after, end_at, end_from, string_from}
-use Rattle.ms_interpreter.specs.Turns.{settled, step_in, test_in, with_arm}
-use Rattle.ms_interpreter.specs.Leads.{done_of, finish_of, state_of}
+use Rattle.ms_interpreter.specs.Turns.{choice_of, settled, step_in, test_in, with_arm}
+use Rattle.ms_interpreter.specs.Leads.{done_of}
 use Rattle.ms_interpreter.specs.Seen.{texts_of}
 use Rattle.ms_interpreter.specs.declared.finish.Finish.{Finish}
 use Rattle.ms_interpreter.specs.declared.state.State.{State}
 use Rattle.ms_jvm.specs.declared.marked.MarkedInt.{MarkedInt}
-use Rattle.ms_jvm.specs.Segments.{Chose, IsAtChoice, TakesArm, after_within, choice_of, going, taken}
+use Rattle.ms_jvm.specs.Segments.{Chose, IsAtChoice, TakesArm, after_within, going, taken}
 
 -- ANY RUN
 

@@ -1,5 +1,5 @@
 -- What a run with marks says of the run of an input, and what stands of a program whatever its entry.
-use Rattle.std.proofs.Common.{◌≡◌, ℕ, Bool, true, false, cond, List, [], ◌∷◌, length, map, ℤ, Option, Some, None, refl, sym, ap, ◌∙◌, slice_get, ◌<◌}
+use Rattle.std.proofs.Common.{◌≡◌, ℕ, Bool, true, false, cond, List, [], ◌∷◌, length, map, ℤ, Option, Some, None, refl, sym, ap, ◌∙◌}
 use Rattle.std.specs.Prelude.{IsSome, is_some, option_and_then, option_map}
 use Rattle.ms_words.specs.declared.end.PathEnd.{PathEnd}
 use Rattle.ms_words.specs.declared.item.Item.{Item}
@@ -7,7 +7,7 @@ use Rattle.ms_words.specs.declared.item.Item.TheVariants.{Entry, At}
 use Rattle.ms_words.specs.declared.kind.Kind.{Kind}
 use Rattle.ms_words.specs.Inputs.{IsInput, Words}
 use Rattle.ms_program.specs.declared.method.MethodId.{MethodId}
-use Rattle.ms_program.specs.Programs.{Class, Program, class_named}
+use Rattle.ms_program.specs.Programs.{Program, class_named}
 use Rattle.ms_program.specs.Views.{view_at}
 use Rattle.ms_program.proofs.Picking.{mapped, some_is}
 use Rattle.ms_machine.specs.Ints.{Int, Marked, marks}

@@ -1,8 +1,8 @@
 -- How a segment of the interpreter comes out, as the machine with marks has it. These words are for private functions.
 use Rattle.std.specs.Prelude.{◌≡◌, ℕ, Option, Some, None, IfSome, false, ℤ}
 use Rattle.ms_machine.specs.Ints.{Marked, marks}
-use Rattle.ms_machine.specs.Values.{Runaway, Stuck}
-use Rattle.ms_machine.specs.Control.{Views, Done, Goes, Ends, Step, Then, Chooses}
+use Rattle.ms_machine.specs.Values.{Runaway}
+use Rattle.ms_machine.specs.Control.{Views, Done, Goes, Ends}
 use Rattle.ms_machine.specs.Segments.{After, Choice, Over, segment_within}
 use Rattle.ms_machine.specs.Runs.{RunEnd, Ended, Cut}
 use Rattle.ms_machine.specs.Laws.{mark_arm}
@@ -12,17 +12,12 @@ use Rattle.ms_interpreter.specs.declared.slot.Slot.TheVariants as slots
 use Rattle.ms_interpreter.specs.declared.state.State.{State}
 use Rattle.ms_interpreter.specs.Leads.{done_of, finish_of, state_of}
 use Rattle.ms_interpreter.specs.Seen.{texts_of}
-use Rattle.ms_interpreter.specs.Turns.{settled, step_in, test_in}
+use Rattle.ms_interpreter.specs.Turns.{choice_of, settled, step_in, test_in}
 use Rattle.ms_jvm.specs.declared.marked.MarkedInt.{MarkedInt}
 use Rattle.ms_jvm.specs.declared.choices.Last.{Last}
 use Rattle.ms_jvm.specs.declared.choices.Last.TheVariants as last
 use Rattle.ms_jvm.specs.declared.segments.Came.{Came}
 use Rattle.ms_jvm.specs.declared.segments.Came.TheVariants as came
-
--- the choice that a step is
-abbrev pub choice_of : {V : Type 0} → Step V → After V
-choice_of (Then done) = Over Stuck
-choice_of (Chooses test arms) = Choice test arms
 
 -- where a run goes on from a state
 abbrev pub going : Views → State Marked → Done Marked

@@ -23,9 +23,17 @@ impl Arithmetic for Marks {
 
     ghost ints = { marks };
 
-    ghost means = { λ a. a };
+    ghost means = { λ self a. a };
+
+    ghost Has = { λ v. Unit {0} };
+
+    ghost kept = { λ self. 0 };
 
     ghost constants = { λ word. refl };
+
+    ghost has_constants = { λ word. tt };
+
+    ghost has_known = { λ v word is. tt };
 
     fn constant(&mut self, word: i32) -> Result<MarkedInt, NoMemory> {
         Ok(MarkedInt { word, plain: true })

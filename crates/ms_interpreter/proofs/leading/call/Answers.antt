@@ -10,16 +10,14 @@ use Rattle.ms_interpreter.proofs.Views.{arguments_seen, enters_seen_at, rest_see
 use Rattle.ms_interpreter.proofs.leading.call.Goals as goal
 
 pub returns-in_default : goal.returns-in_default
-returns-in_default g c = λ texts.
-    let f = g.A.Arithmetic.means in
+returns-in_default g c = λ f texts.
     let state = c.args.state.now in
     let arguments = map (λ v. Some v) (reverse (take c.args.count (values_of f texts state.top.stack))) in
     let caller : control.Frame _ = record (frame_of f texts state.top) { stack = drop c.args.count (values_of f texts state.top.stack) } in
     enters_seen_at f texts (views_of c.args.program.now) state c.at.result (λ view. view.callee) None arguments None caller c.at.ensures c.in_default.ensures
 
 pub returns : goal.returns
-returns g c = IfOk-weaker c.enter.result _ _ (λ finish goes texts.
-    let f = g.A.Arithmetic.means in
+returns g c = IfOk-weaker c.enter.result _ _ (λ finish goes f texts.
     let state = c.args.state.now in
     let arguments = map (λ v. Some v) (reverse (take c.args.count (values_of f texts state.top.stack))) in
     let caller : control.Frame _ = record (frame_of f texts state.top) { stack = drop c.args.count (values_of f texts state.top.stack) } in
@@ -30,4 +28,4 @@ returns g c = IfOk-weaker c.enter.result _ _ (λ finish goes texts.
     enters_seen_at f texts (views_of c.args.program.now) state c.at.result (λ view. view.callee) (Some c.in-Some.item) arguments None caller c.at.ensures c.in-Some.ensures
     ∙ ap (λ (locals : List (Option (Value _))). enters (Some c.in-Some.item) locals None caller (below_of f texts state) (memory_of f texts state.memory)) passed
     ∙ ap (λ (frame : control.Frame _). enters (Some c.in-Some.item) (locals_of f texts c.in_ok-locals.locals.items) None frame (below_of f texts state) (memory_of f texts state.memory)) left
-    ∙ goes texts) c.enter.ensures
+    ∙ goes f texts) c.enter.ensures

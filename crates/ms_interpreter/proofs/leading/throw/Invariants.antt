@@ -9,9 +9,9 @@ use Rattle.ms_interpreter.proofs.leading.throw.Given as goal
 abbrev pub invariant-frames : goal.invariant-frames
 invariant-frames g l = record {
   seen : IsSome (views_of l.program l.state.top.at);
-  same : (texts : Texts) →
-      throws (views_of l.program) l.number l.class (memory_of g.A.Arithmetic.means texts l.fn.state.memory) (frame_of g.A.Arithmetic.means texts l.fn.state.top) (below_of g.A.Arithmetic.means texts l.fn.state)
-      ≡ throws (views_of l.program) l.number l.class (memory_of g.A.Arithmetic.means texts l.state.memory) (frame_of g.A.Arithmetic.means texts l.state.top) (below_of g.A.Arithmetic.means texts l.state);
+  same : (f : _ → g.A.Arithmetic.V) (texts : Texts) →
+      throws (views_of l.program) l.number l.class (memory_of f texts l.fn.state.memory) (frame_of f texts l.fn.state.top) (below_of f texts l.fn.state)
+      ≡ throws (views_of l.program) l.number l.class (memory_of f texts l.state.memory) (frame_of f texts l.state.top) (below_of f texts l.state);
 }
 
 abbrev pub decreases-frames : goal.decreases-frames

@@ -11,5 +11,5 @@ pub returns-in_default-natural-clause-lead : goal.returns-in_default-natural-cla
 returns-in_default-natural-clause-lead g c = λ texts.
     let fits : SFits w32 c.in-Some.word = search rules in
     let none : None ≡ natural_of c.in-Some.word = sym c.in_default-natural.is ∙ c.natural.ensures ∙ ap natural_of (to_z-of_z w32 c.in-Some.word fits) in
-    subst (λ (lead : Lead _). Settles g.A.Arithmetic.ints g.A.Arithmetic.means texts (did.Makes c.args.size) c.args.frame.now c.args.memory.now lead c.args.frame.now c.make_throwable.new.self) (sym c.thrown.ensures)
-    (negative_length g.A.Arithmetic.ints g.A.Arithmetic.means texts c.args.frame.now c.args.memory.now c.make_throwable.new.self c.args.size c.in-Some.word c.make_throwable.result c.in-Some.ensures none c.make_throwable.ensures)
+    subst (λ (lead : Lead _). Settles g.A.Arithmetic.ints (g.A.Arithmetic.means c.args.arithmetic.now) texts (did.Makes c.args.size) c.args.frame.now c.args.memory.now lead c.args.frame.now c.make_throwable.new.self) (sym c.thrown.ensures)
+    (negative_length g.A.Arithmetic.ints (g.A.Arithmetic.means c.args.arithmetic.now) texts c.args.frame.now c.args.memory.now c.make_throwable.new.self c.args.size c.in-Some.word c.make_throwable.result c.in-Some.ensures none c.make_throwable.ensures)

@@ -8,5 +8,5 @@ use Rattle.ms_interpreter.proofs.settling.put.Goals as goal
 
 pub returns-clause-lead : goal.returns-clause-lead
 returns-clause-lead g c = λ texts.
-    ap (Moves Next) (settled.put g.A.Arithmetic.ints g.A.Arithmetic.means texts c.args.frame.now c.args.memory.now c.args.local (planned c.args.plan) c.in_ok-a.a c.in_ok-a.ensures
-    ∙ ap (λ (frame : Frame _). here_of g.A.Arithmetic.means texts frame c.args.memory.now) (sym c.in_ok-set_local.ensures))
+    ap (Moves Next) (settled.put g.A.Arithmetic.ints (g.A.Arithmetic.means c.compute.new.arithmetic) texts c.args.frame.now c.args.memory.now c.args.local (planned c.args.plan) c.in_ok-a.a c.in_ok-a.ensures.is
+    ∙ ap (λ (frame : Frame _). here_of (g.A.Arithmetic.means c.compute.new.arithmetic) texts frame c.args.memory.now) (sym c.in_ok-set_local.ensures))

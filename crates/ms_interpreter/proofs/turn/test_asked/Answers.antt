@@ -10,9 +10,9 @@ use Rattle.ms_interpreter.proofs.Steps.{asked_seen, step_unseen, test_seen}
 use Rattle.ms_interpreter.proofs.turn.test_asked.Goals as goal
 
 pub returns-in_default : goal.returns-in_default
-returns-in_default g c = sym (ap test_in (step_unseen g.A.Arithmetic.ints g.A.Arithmetic.means (views_of c.args.program.now) c.args.state.now (subst (λ (item : Item). IsSeen (views_of c.args.program.now) item (None)) c.at.ensures (subst (λ (o : Option Instruction). IsSeen (views_of c.args.program.now) c.at.result (option_map told o)) c.in_default.is c.in_ok-instruction.ensures))))
+returns-in_default g c = λ f. sym (ap test_in (step_unseen g.A.Arithmetic.ints f (views_of c.args.program.now) c.args.state.now (subst (λ (item : Item). IsSeen (views_of c.args.program.now) item (None)) c.at.ensures (subst (λ (o : Option Instruction). IsSeen (views_of c.args.program.now) c.at.result (option_map told o)) c.in_default.is c.in_ok-instruction.ensures))))
 
 pub returns : goal.returns
-returns g c =
-    sym (test_seen g.A.Arithmetic.ints g.A.Arithmetic.means (views_of c.args.program.now) c.args.state.now (told c.in-Some.instruction) (subst (λ (item : Item). IsSeen (views_of c.args.program.now) item (Some (told c.in-Some.instruction))) c.at.ensures (subst (λ (o : Option Instruction). IsSeen (views_of c.args.program.now) c.at.result (option_map told o)) c.in-Some.is c.in_ok-instruction.ensures))
-    ∙ asked_seen g.A.Arithmetic.ints g.A.Arithmetic.means (texts_of (views_of c.args.program.now)) (told c.in-Some.instruction) c.args.state.now.top c.args.state.now.memory c.ask-test.result c.ask-test.ensures)
+returns g c = λ f.
+    sym (test_seen g.A.Arithmetic.ints f (views_of c.args.program.now) c.args.state.now (told c.in-Some.instruction) (subst (λ (item : Item). IsSeen (views_of c.args.program.now) item (Some (told c.in-Some.instruction))) c.at.ensures (subst (λ (o : Option Instruction). IsSeen (views_of c.args.program.now) c.at.result (option_map told o)) c.in-Some.is c.in_ok-instruction.ensures))
+    ∙ asked_seen g.A.Arithmetic.ints f (texts_of (views_of c.args.program.now)) (told c.in-Some.instruction) c.args.state.now.top c.args.state.now.memory c.ask-test.result c.ask-test.ensures)

@@ -1,15 +1,9 @@
-use Rattle.std.proofs.Common.{rules, ◌≡◌, ◌≤◌, ◌<◌, ◌-◌, ◌+◌, ℕ, Some, arith, refl, sym, ap, ◌∙◌, subst}
-use Rattle.std.specs.Prelude.{Option}
-use Rattle.ms_machine.specs.Ints.{Marked}
-use Rattle.ms_machine.specs.Control.{Done}
+use Rattle.std.proofs.Common.{rules, ◌<◌, ◌+◌}
 use Rattle.ms_machine.specs.Values.{Runaway}
 use Rattle.ms_linking.specs.Linked.{views_of}
-use Rattle.ms_interpreter.specs.declared.finish.Finish.{Finish}
-use Rattle.ms_interpreter.specs.Leads.{done_of, finish_of}
-use Rattle.ms_interpreter.specs.Seen.{texts_of}
-use Rattle.ms_jvm.specs.declared.marked.MarkedInt.{MarkedInt}
+use Rattle.ms_interpreter.specs.Leads.{finish_of}
 use Rattle.ms_jvm.specs.Segments.{going}
-use Rattle.ms_jvm.proofs.Choosing.{Kept, chosen_so, cut_so, ended_so, Runs, kept_at_first, over_so}
+use Rattle.ms_jvm.proofs.Choosing.{chosen_so, cut_so, ended_so, Runs, kept_at_first, over_so}
 use Rattle.ms_machine.specs.Runs.{Ended, Cut}
 use Rattle.ms_jvm.proofs.choices.run_from.Goals as goal
 

@@ -1,9 +1,4 @@
-use Rattle.std.proofs.Common.{◌≡◌, length, ℕ, sym, ap, ◌∙◌, Some}
-use Rattle.std.specs.Prelude.{option_map}
-use Rattle.ms_machine.specs.Control.{Program}
-use Rattle.ms_machine.specs.Ints.{marks}
-use Rattle.ms_machine.specs.Laws.{mark_arm, marked_start}
-use Rattle.ms_machine.specs.Runs.{end_from, string_from}
+use Rattle.std.proofs.Common.{sym, ◌∙◌}
 use Rattle.ms_jvm.specs.Entered.{entered}
 use Rattle.ms_jvm.specs.Segments.{ends_with}
 use Rattle.ms_jvm.proofs.Marking.{arms_so, ends_so, never_stuck}

@@ -1,4 +1,4 @@
-use Rattle.std.proofs.Common.{◌≡◌, length, ap}
+use Rattle.std.proofs.Common.{length, ap}
 use Rattle.ms_machine.specs.Control.{Ends}
 use Rattle.ms_machine.specs.Ints.{marks}
 use Rattle.ms_machine.specs.Laws.{mark_arm}
