@@ -19,8 +19,15 @@ use Rattle.ms_pathcond.specs.Mixing.{has}
 is_one : (a i : ℕ) → has a i ≡ true → bit_at a i ≡ 1
 is_one a i set = eqb-true (bit_at a i) 1 set
 
-one_is : (n : ℕ) → n ≡ 1 → (n == 1) ≡ true
+pub one_is : (n : ℕ) → n ≡ 1 → (n == 1) ≡ true
 one_is n is = ap (λ m. m == 1) is
+
+pub one_is_not : (n : ℕ) → n ≢ 1 → (n == 1) ≡ false
+one_is_not n is_not = by_test (n == 1) refl
+  where
+    by_test : (b : Bool) → (n == 1) ≡ b → b ≡ false
+    by_test true is = absurd (is_not (eqb-true n 1 is))
+    by_test false is = refl
 
 pub has_left : (a b i : ℕ) → has a i ≡ true → has (bit_or a b) i ≡ true
 has_left a b i set = one_is (bit_at (bit_or a b) i) (omega (arith, is_one a i set, bit_at_or a b i, bit_at-lt b i, bit_at-lt (bit_or a b) i))

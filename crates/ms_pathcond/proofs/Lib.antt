@@ -3,3 +3,5 @@ pub mod Picking
 pub mod Bits
 pub mod Mixed
 pub mod SliceLaws
+pub mod Kept
+pub mod Together

@@ -2,7 +2,7 @@
 use Rattle.std.proofs.Common.{◌≡◌, ◌≢◌, ◌<◌, ◌≤◌, ◌+◌, ℕ, zero, suc, true, false, List, [], ◌∷◌, ◌++◌, length, map, take, get_or, slice_get, Some, refl, sym, ap, subst, ◌∙◌, arith}
 use Rattle.std.specs.Prelude.{fold}
 use Rattle.std.specs.Int.Bits.{bit_and, bit_or}
-use Rattle.std.specs.List.{AllByRecursion}
+use Rattle.std.specs.List.{All, AllByRecursion, Contains}
 use Rattle.std.proofs.lemmas.List.{length-map}
 use Rattle.std.proofs.lemmas.Option.{slice_get_within, slice_get-get_or}
 use Rattle.ms_pathcond.specs.declared.literal.Literal.{Literal}
@@ -78,6 +78,9 @@ belongs_is_met supports first gathered place closed (Shares other _ it its belon
 
 -- PICKING
 
+behind : {X : Type 0} (x : X) (xs : List X) (y : X) → Contains xs y → Contains (x ∷ xs) y
+behind x xs y there = (suc there.0, omega (arith, there.1), there.2)
+
 pub none_picked : (supports : List ℕ) (first gathered : ℕ) (all : List Literal) → ArePicked supports first gathered all 0 (record { literals = []; params = 0 })
 none_picked supports first gathered all = record { literals = Ends 0; params = λ support are. refl }
 
@@ -134,3 +137,11 @@ all_picked Q IsIn place [] [] all (Ends _) = tt
 all_picked Q IsIn place [] (_ ∷ picked) all none = elim none [ ]
 all_picked Q IsIn place (x ∷ xs) (_ ∷ picked) all (Takes _ _ _ _ here rest) = (all.0, all_picked Q IsIn (suc place) xs picked all.1 rest)
 all_picked Q IsIn place (x ∷ xs) picked all (Leaves _ _ _ _ out rest) = all_picked Q IsIn (suc place) xs picked all.1 rest
+
+-- what is picked is among these
+pub picked_among : {X : Type 0} (IsIn : ℕ → Type 0) (place : ℕ) (xs picked : List X) → Picks IsIn place xs picked → All (Contains xs) picked
+picked_among IsIn place [] [] (Ends _) k d less = absurd (omega (arith, less))
+picked_among IsIn place [] (_ ∷ picked) none k d less = elim none [ ]
+picked_among IsIn place (x ∷ xs) (_ ∷ picked) (Takes _ _ _ _ here rest) zero d less = (0, omega arith, refl)
+picked_among IsIn place (x ∷ xs) (_ ∷ picked) (Takes _ _ _ _ here rest) (suc k) d less = behind x xs _ (picked_among IsIn (suc place) xs picked rest k d (omega (arith, less)))
+picked_among IsIn place (x ∷ xs) picked (Leaves _ _ _ _ out rest) k d less = behind x xs _ (picked_among IsIn (suc place) xs picked rest k d less)

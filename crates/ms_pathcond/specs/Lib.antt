@@ -2,3 +2,4 @@ pub mod Literals
 pub mod Slices
 pub mod Gathered
 pub mod Mixing
+pub mod Growing

@@ -1,10 +1,10 @@
 -- Literals over a table of terms.
-use Rattle.std.specs.Prelude.{ℕ, ◌<◌, List, map}
+use Rattle.std.specs.Prelude.{◌≡◌, ℕ, ◌<◌, List, Some, map, slice_get}
 use Rattle.std.specs.Int.Bits.{bit_or}
 use Rattle.std.specs.List.{AllByRecursion}
 use Rattle.ms_terms.specs.declared.term.Term.{Term as Node}
 use Rattle.ms_terms.specs.Terms.{Term, params}
-use Rattle.ms_terms.specs.Nodes.{term_of}
+use Rattle.ms_terms.specs.Nodes.{term_of, terms_of}
 use Rattle.ms_machine.specs.Tests.{Literal as Relation}
 use Rattle.ms_pathcond.specs.declared.literal.Literal.{Literal}
 
@@ -28,3 +28,7 @@ support_of relation = bit_or (params relation.a) (params relation.b)
 -- those of each literal
 abbrev pub supports : List Node → List Literal → List ℕ
 supports nodes literals = map (λ literal. support_of (relation_of nodes literal)) literals
+
+-- each number of a table is that of the same term in the other
+abbrev pub Keeps : List Node → List Node → Type 0
+Keeps old new = (number : ℕ) (term : Term) → slice_get (terms_of old) number ≡ Some term → slice_get (terms_of new) number ≡ Some term

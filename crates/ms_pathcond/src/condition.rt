@@ -1,4 +1,5 @@
 ghost use Rattle.std.specs.Prelude.{◌≡◌, ◌∷◌, ◌++◌, ◌<◌, [], IfOk, OnErr, OnOk, length};
+ghost use Rattle.std.specs.List.{All, Contains};
 ghost use Rattle.ms_pathcond.specs.Gathered.{ArePicked};
 ghost use Rattle.ms_pathcond.specs.Literals as slices;
 ghost use Rattle.ms_pathcond.specs.Literals.{AreOf};
@@ -11,19 +12,21 @@ use ms_words::NoMemory;
 use std::alloc::Global;
 use std::marker::Model;
 
-/// A list of literals, all of which are to hold.
+/// A list of at most 4,294,967,295 literals, all of which are to hold.
 #[derive(Drop)]
 pub struct Condition {
     literals: Vec<Literal>,
 }
 
 impl Model for Condition {
-    ghost use Rattle.std.specs.Prelude.{List};
+    ghost use Rattle.std.specs.Prelude.{◌≤◌, List, length};
     ghost use Rattle.ms_pathcond.specs.declared.literal.Literal.{Literal};
 
     ghost Value = { List Literal };
 
     ghost view = { λ condition. condition.literals.items };
+
+    ghost invariant = { λ condition. length condition.literals.items ≤ 4294967295 };
 }
 
 impl Condition {
@@ -47,6 +50,20 @@ impl Condition {
         Ok(())
     }
 
+    /// How many literals there are, at most 4,294,967,295.
+    pub fn len(&self) -> u32
+        ensures { result ≡ length self.now }
+    {
+        self.literals.len() as u32
+    }
+
+    /// The literals, lent.
+    pub fn literals(&self) -> &[Literal]
+        ensures { result.now ≡ self.now }
+    {
+        self.literals.as_slice()
+    }
+
     /// The literals that share parameters, transitively, with those from place `first` on, counted from 0, in
     /// their order: none where `first` is behind the last. All are over these terms. It fails for want of memory
     /// alone.
@@ -54,6 +71,7 @@ impl Condition {
         requires { AreOf (length terms.now) self.now }
         ensures slice { IfOk result (IsSlice terms.now self.now first) }
         ensures of { IfOk result (λ slice. AreOf (length terms.now) slice.literals) }
+        ensures among { IfOk result (λ slice. All (Contains self.now) slice.literals) }
     {
         let first = first as usize;
         let literals = self.literals.as_slice();

@@ -9,7 +9,12 @@ mod condition;
 mod gathering;
 mod laws;
 mod literal;
+mod mixing;
 
 pub use condition::{Condition, Slice};
-pub use laws::{least_inputs_are_put_together, slices_are_put_together, takers_make_slices_true};
+pub use laws::{
+    least_inputs_are_put_together, slices_are_put_together, tables_that_grow_keep_slices,
+    takers_make_slices_true,
+};
 pub use literal::{Literal, Literals, support};
+pub use mixing::put_together;

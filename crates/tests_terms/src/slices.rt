@@ -2,7 +2,7 @@
 
 use ms_pathcond::{
     Condition, Literal, Literals, least_inputs_are_put_together, slices_are_put_together, support,
-    takers_make_slices_true,
+    tables_that_grow_keep_slices, takers_make_slices_true,
 };
 use ms_terms::{Term, Terms};
 use ms_words::{Kind, Rel};
@@ -184,9 +184,43 @@ fn literals_are_listed(rt: HostRuntime) -> Result<(), Fail> {
     Ok(())
 }
 
+/// How many literals a condition has before and after two are added, and those that it lends.
+fn counted(alloc: Global) -> Result<String, AllocError> {
+    let mut text = String::new(alloc);
+    let mut terms = Terms::new(alloc);
+    let ten = terms.constant(10)?;
+    let p = terms.param(0, Kind::I)?;
+    let mut condition = Condition::new(alloc);
+    let before = condition.len();
+    condition.push(Literal {
+        rel: Rel::Gt,
+        a: p,
+        b: ten,
+    })?;
+    condition.push(Literal {
+        rel: Rel::Ne,
+        a: ten,
+        b: p,
+    })?;
+    for literal in condition.literals() {
+        tell(&mut text, *literal)?;
+    }
+    let after = condition.len();
+    write!(text, "{before} {after}")?;
+    Ok(text)
+}
+
+#[test]
+fn conditions_are_counted_and_lent(rt: HostRuntime) -> Result<(), Fail> {
+    let text = counted(rt.alloc())?;
+    assert!(rt; text.as_str() == "gt ne 0 2", "{text}");
+    Ok(())
+}
+
 #[test]
 fn laws_do_nothing(_rt: HostRuntime) {
     slices_are_put_together();
     least_inputs_are_put_together();
     takers_make_slices_true();
+    tables_that_grow_keep_slices();
 }

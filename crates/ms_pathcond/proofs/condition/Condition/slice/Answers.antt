@@ -4,7 +4,7 @@ use Rattle.std.proofs.lemmas.Result.{IfOk-weaker}
 use Rattle.ms_pathcond.specs.Literals.{IsOf, supports}
 use Rattle.ms_pathcond.specs.Gathered.{ArePicked, IsClosed, IsSound}
 use Rattle.ms_pathcond.specs.Slices.{IsSlice}
-use Rattle.ms_pathcond.proofs.Picking.{all_picked, is_slice}
+use Rattle.ms_pathcond.proofs.Picking.{all_picked, is_slice, picked_among}
 use Rattle.ms_pathcond.proofs.condition.Condition.slice.Goals as goal
 
 is_one : (c : goal.After-drop-supports) → IfOk c.picked.result (IsSlice c.args.terms.now c.args.self.now c.args.first)
@@ -22,3 +22,6 @@ returns-clause-slice c = is_one c
 
 pub returns-clause-of : goal.returns-clause-of
 returns-clause-of c = IfOk-weaker c.picked.result _ _ (λ slice is. all_picked (IsOf (length c.args.terms.now)) _ 0 c.args.self.now slice.literals c.requires is.literals) (is_one c)
+
+pub returns-clause-among : goal.returns-clause-among
+returns-clause-among c = IfOk-weaker c.picked.result _ _ (λ slice is. picked_among _ 0 c.args.self.now slice.literals is.literals) (is_one c)

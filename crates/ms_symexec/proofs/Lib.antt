@@ -1,0 +1,6 @@
+mod Standing
+mod Turning
+mod Firsts
+mod Parameters
+mod Started
+mod Reaching

@@ -1,0 +1,4 @@
+pub mod Standing
+pub mod Segments
+pub mod Keys
+pub mod Outcomes
